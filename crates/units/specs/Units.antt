@@ -1,0 +1,18 @@
+-- Document 01, "Units": words, lines and bytes, and the conversions between them. There are no others.
+use Prim.Native.Nat.{ℕ, _+_, _*_, _/_}
+
+-- "Words are 16 bits": two bytes each
+abbrev pub bytesOfWords : ℕ → ℕ
+bytesOfWords w = w * 2
+
+-- the whole words that stand in so many bytes
+abbrev pub wordsOfBytes : ℕ → ℕ
+wordsOfBytes b = b / 2
+
+-- "LTOT is 40 times (1 + cards)", and the prologue and each card is one line
+abbrev pub linesOfCards : ℕ → ℕ
+linesOfCards w = w / 40
+
+-- a part takes "20 fields a line; a part with no fields takes no line"; a field is a word
+abbrev pub linesOfFields : ℕ → ℕ
+linesOfFields w = (w + 19) / 20

@@ -1,0 +1,74 @@
+// The three units of the format, kept apart, with the named conversions between them; and the four numbers of an answer.
+ghost use mathlib.Core.Path.{_≡_};
+ghost use Prim.Native.Nat.{_+_, _*_, _/_, _^_, _<_};
+ghost use Rattle.units.specs.Units.{bytesOfWords, wordsOfBytes, linesOfCards, linesOfFields};
+ghost use Rattle.units.specs.Answers.{packedOf};
+
+// A count of 16-bit words, as LTOT of a binary record.
+pub struct Words(pub usize);
+
+// A count of lines, as LTOT of a record in character form.
+pub struct Lines(pub usize);
+
+// A count of bytes, as the length of a buffer.
+pub struct Bytes(pub usize);
+
+// The four numbers of an answer.
+pub struct Answer {
+    pub n: u8,
+    pub a: u32,
+    pub b: u16,
+    pub c: u16,
+}
+
+// The bytes that so many words take.
+pub fn bytes_of_words(w: Words) -> Bytes
+    requires { ⌜ w .0 < 2 ^ 62 ⌝ }
+    ensures { λ r. ⌜ r .0 ≡ bytesOfWords (w .0) ⌝ }
+{
+    Bytes(w.0 * 2)
+}
+
+// The whole words that so many bytes hold.
+pub fn words_of_bytes(b: Bytes) -> Words
+    ensures { λ r. ⌜ r .0 ≡ wordsOfBytes (b .0) ⌝ }
+{
+    Words(b.0 / 2)
+}
+
+// The words that a word of the block, taken as a count, says.
+pub fn words_said(w: u16) -> Words
+    ensures { λ r. ⌜ (r .0 ≡ w) × (r .0 < 65536) ⌝ }
+{
+    Words(w as usize)
+}
+
+// The lines of a Catalogue or a Header of so many words: its prologue and each card is one.
+pub fn lines_of_cards(w: Words) -> Lines
+    ensures { λ r. ⌜ r .0 ≡ linesOfCards (w .0) ⌝ }
+{
+    Lines(w.0 / 40)
+}
+
+// The lines that a part of so many words takes, 20 fields a line.
+pub fn lines_of_fields(w: Words) -> Lines
+    ensures { λ r. ⌜ r .0 ≡ linesOfFields (w .0) ⌝ }
+{
+    let whole = w.0 / 20;
+    if w.0 % 20 == 0 {
+        return Lines(whole);
+    }
+    Lines(whole + 1)
+}
+
+// The four numbers as one.
+pub fn pack(r: Answer) -> u64
+    requires { ⌜ r .a < 2 ^ 24 ⌝ }
+    ensures { λ p. ⌜ p ≡ packedOf r ⌝ }
+{
+    let n = r.n;
+    let a = r.a;
+    let b = r.b;
+    let c = r.c;
+    (n as u64) * 72057594037927936 + (a as u64) * 4294967296 + (b as u64) * 65536 + (c as u64)
+}

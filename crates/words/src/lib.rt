@@ -1,0 +1,56 @@
+// 16-bit words in bytes, high byte first, and their exclusive or.
+use units::Bytes;
+use units::Words;
+ghost use mathlib.Core.Path.{_≡_};
+ghost use mathlib.Core.List.{_∷_, []};
+ghost use Prim.Native.Nat.{_+_, _*_, _<_};
+ghost use lib.ListN.{length, getD};
+ghost use lib.Seq.{sets};
+ghost use Rattle.words.specs.Words.{wordsOf, bytesOf, xorAll};
+
+fn wide(x: u8) -> u16
+    ensures { λ r. ⌜ (r ≡ x) × (r < 256) ⌝ }
+{
+    x as u16
+}
+
+// The whole words of a part of a block.
+pub fn count(part: &[u8]) -> Words
+    ensures { λ r. ⌜ r .0 ≡ length (wordsOf (now (part .entry))) ⌝ }
+{
+    units::words_of_bytes(Bytes(part.len()))
+}
+
+// The word with `at` words before it.
+pub fn word_at(part: &[u8], at: Words) -> u16
+    requires { ⌜ at .0 < length (wordsOf (now part)) ⌝ }
+    ensures { λ r. ⌜ r ≡ getD (wordsOf (now (part .entry))) (at .0) 0 ⌝ }
+{
+    let high = units::bytes_of_words(at).0;
+    wide(part[high]) * 256 + wide(part[high + 1])
+}
+
+// Puts a word after `at` words; all other bytes stay.
+pub fn put_word(part: &mut [u8], at: Words, w: u16)
+    requires { ⌜ at .0 < length (wordsOf (now part)) ⌝ }
+    ensures { λ _. ⌜ now (part .exit) ≡ sets (now (part .entry)) (at .0 * 2) (bytesOf (w ∷ [])) ⌝ }
+{
+    let high = units::bytes_of_words(at).0;
+    let low = high + 1;
+    part[high] = (w / 256) as u8;
+    part[low] = (w % 256) as u8;
+}
+
+// The exclusive or of all words of a part.
+pub fn exclusive_or(part: &[u8]) -> u16
+    ensures { λ r. ⌜ r ≡ xorAll (wordsOf (now (part .entry))) ⌝ }
+{
+    let end = count(part).0;
+    let mut x: u16 = 0;
+    let mut i = 0;
+    while i < end {
+        x = x ^ word_at(part, Words(i));
+        i += 1;
+    }
+    x
+}
