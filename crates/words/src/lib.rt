@@ -3,9 +3,9 @@ use units::Bytes;
 use units::Words;
 ghost use mathlib.Core.Path.{_≡_};
 ghost use mathlib.Core.List.{_∷_, []};
-ghost use Prim.Native.Nat.{_+_, _*_, _<_};
+ghost use Prim.Native.Nat.{_*_, _<_, _≤_};
 ghost use lib.ListN.{length, getD};
-ghost use lib.Seq.{sets};
+ghost use lib.Seq.{sets, slice};
 ghost use Rattle.words.specs.Words.{wordsOf, bytesOf, xorAll};
 
 fn wide(x: u8) -> u16
@@ -28,6 +28,16 @@ pub fn word_at(part: &[u8], at: Words) -> u16
 {
     let high = units::bytes_of_words(at).0;
     wide(part[high]) * 256 + wide(part[high + 1])
+}
+
+// The words after `from` up to `upto`, as a part of the bytes.
+pub fn part(whole: &[u8], from: Words, upto: Words) -> &[u8]
+    requires { ⌜ (from .0 ≤ upto .0) × (upto .0 ≤ length (wordsOf (now whole))) ⌝ }
+    ensures { λ r. ⌜ now r ≡ slice (from .0 * 2) (upto .0 * 2) (now (whole .entry)) ⌝ }
+{
+    let start = units::bytes_of_words(from).0;
+    let end = units::bytes_of_words(upto).0;
+    &whole[start..end]
 }
 
 // Puts a word after `at` words; all other bytes stay.

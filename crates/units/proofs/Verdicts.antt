@@ -1,0 +1,25 @@
+-- Tests and verdicts: what a refusal that was not given tells.
+use mathlib.Core.Path.{_≡_, refl}
+use mathlib.Core.Bool.{Bool, true, false, _||_, _&&_}
+use Prim.Native.Nat.{ℕ}
+use native.Mathlib.Omega.{arith}
+use Rattle.units.specs.declared.Answer.{Answer}
+use Rattle.units.specs.Choice.{if_then_else_}
+use Rattle.units.specs.Answers.{Verdict, passed, refused}
+
+module _ {A : Type 0} where
+  pub never-passed : {r : Answer} {x : A} → refused r ≡ passed x → ⊥
+  never-passed e = let z : _≡_ {A = ℕ} 0 1 = cc in omega arith
+
+  -- the test failed, and what stands after it passed
+  pub else-passed : (t : Bool) (r : Answer) (v : Verdict A) (x : A) → (if t then refused r else v) ≡ passed x → (t ≡ false) × (v ≡ passed x)
+  else-passed true r v x e = absurd (never-passed e)
+  else-passed false r v x e = (refl, e)
+
+pub or-off : (s t : Bool) → (s || t) ≡ false → (s ≡ false) × (t ≡ false)
+or-off true t e = let z : _≡_ {A = ℕ} 0 1 = cc in absurd (omega arith)
+or-off false t e = (refl, e)
+
+pub and-on : (s t : Bool) → (s && t) ≡ true → (s ≡ true) × (t ≡ true)
+and-on true t e = (refl, e)
+and-on false t e = let z : _≡_ {A = ℕ} 0 1 = cc in absurd (omega arith)

@@ -1,0 +1,18 @@
+-- Facts about lists that every layer cites.
+use mathlib.Core.Path.{_≡_, refl, ap, _∙_}
+use mathlib.Core.List.{List, [], _∷_}
+use Prim.Native.Nat.{ℕ, zero, suc, _+_, _-_, _≤_, _<_}
+use native.Mathlib.Nat.{suc-add, zero-add}
+use native.Mathlib.Omega.{arith}
+use lib.ListN.{length, getD, take, drop}
+use lib.Seq.{slice, getD-drop, getD-take, take-take, drop-drop, take-nil}
+
+module _ {A : Type 0} where
+  take-drop : (m n : ℕ) (l : List A) → take m (drop n l) ≡ drop n (take (n + m) l)
+  take-drop m zero l = rw zero-add
+  take-drop m (suc n) [] = rw (suc-add, take-nil)
+  take-drop m (suc n) (x ∷ xs) = rw suc-add (take-drop m n xs)
+
+  -- a part by its start and length is the slice by its two ends
+  pub part-slice : (f t : ℕ) (l : List A) → f ≤ t → take (t - f) (drop f l) ≡ slice f t l
+  part-slice f t l h = let e : f + (t - f) ≡ t = omega arith in take-drop (t - f) f l ∙ ap (λ n. drop f (take n l)) e
