@@ -11,6 +11,7 @@ use Rattle.units.specs.Choice.{if_then_else_}
 use Rattle.units.specs.Answers.{answer, passed, refused}
 use Rattle.units.proofs.Verdicts.{never-passed, else-passed, or-off}
 use Rattle.words.specs.Words.{word, words}
+use Rattle.record.specs.Rules.{Least}
 use Rattle.record.specs.Judging.{wordWithin, wrongTotal, firstNotZero, firstNotCard, wordsNeeded, underLeast, judgeCards, judgeCounts, judgeData, judgeRecord}
 
 -- a total that is right
@@ -60,11 +61,6 @@ unfolding judgeCards
 passed-cards n z rest k c =
     simp
     (c .total, right-total k (length rest) (c .right), lt-leb (firstNotZero z rest) 40 (c .zeros), lt-leb (firstNotCard k rest) k (c .cards))
-
--- a count at its least value or above it
-pub record Least (least w : ℕ) : Type 0 where
-  pub least-is : least ≤ w
-  pub sign : w < 32768
 
 at-least : (least w : ℕ) → underLeast least w ≡ false → Least least w
 unfolding underLeast

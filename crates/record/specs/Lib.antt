@@ -1,3 +1,4 @@
 pub mod Judging
 pub mod Cases
 pub mod Lines
+pub mod Rules

@@ -1,11 +1,11 @@
 -- Bytes, the words that they make, and parts of both.
 use mathlib.Core.Path.{_≡_, refl, sym, ap, _∙_}
 use Prim.Native.Nat.{ℕ, zero, suc, _+_, _*_, _/_, _%_, _<_}
-use mathlib.Core.List.{List, [], _∷_, _++_}
+use mathlib.Core.List.{List, [], _∷_, _++_, append-assoc}
 use native.Mathlib.Omega.{arith}
 use lib.ListN.{length, getD, take, drop}
 use lib.Seq.{slice, drop-nil}
-use Rattle.words.specs.Words.{wordsOf, bytesOf, All, Below}
+use Rattle.words.specs.Words.{wordsOf, bytesOf, joined, All, Below}
 
 pub length-wordsOf : (b : List ℕ) → length (wordsOf b) ≡ length b / 2
 unfolding wordsOf
@@ -77,3 +77,8 @@ words-slice f t b = words-drop f (take (t * 2) b) ∙ ap (drop f) (words-take t 
 pub all-below : (n : ℕ) (l : List ℕ) → ((i : ℕ) → getD l i 0 < n) → Below n l
 all-below n [] h = tt
 all-below n (x ∷ xs) h = (h 0, all-below n xs (λ i. h (suc i)))
+
+pub joined-append : (rs ss : List (List ℕ)) → joined (rs ++ ss) ≡ joined rs ++ joined ss
+unfolding joined
+joined-append [] ss = refl
+joined-append (r ∷ rs) ss = ap (λ t. r ++ t) (joined-append rs ss) ∙ sym (append-assoc r (joined rs) (joined ss))

@@ -1,11 +1,12 @@
 -- Facts about lists that every layer cites.
 use mathlib.Core.Path.{_≡_, refl, ap, _∙_}
 use mathlib.Core.List.{List, [], _∷_}
-use Prim.Native.Nat.{ℕ, zero, suc, _+_, _-_, _≤_, _<_}
+use Prim.Native.Nat.{ℕ, zero, suc, _+_, _-_, _≤_}
 use native.Mathlib.Nat.{suc-add, zero-add}
 use native.Mathlib.Omega.{arith}
-use lib.ListN.{length, getD, take, drop}
-use lib.Seq.{slice, getD-drop, getD-take, take-take, drop-drop, take-nil}
+use lib.ListN.{take, drop}
+use lib.Seq.{slice, take-nil}
+use Rattle.words.specs.Words.{All}
 
 module _ {A : Type 0} where
   take-drop : (m n : ℕ) (l : List A) → take m (drop n l) ≡ drop n (take (n + m) l)
@@ -16,3 +17,15 @@ module _ {A : Type 0} where
   -- a part by its start and length is the slice by its two ends
   pub part-slice : (f t : ℕ) (l : List A) → f ≤ t → take (t - f) (drop f l) ≡ slice f t l
   part-slice f t l h = let e : f + (t - f) ≡ t = omega arith in take-drop (t - f) f l ∙ ap (λ n. drop f (take n l)) e
+
+module _ {A : Type 0} (P : A → Type 0) where
+  -- what holds of all holds of the first ones, and of the others
+  pub all-take : (n : ℕ) (l : List A) → All P l → All P (take n l)
+  all-take zero l h = tt
+  all-take (suc n) [] h = tt
+  all-take (suc n) (x ∷ xs) h = (h .0, all-take n xs (h .1))
+
+  pub all-drop : (n : ℕ) (l : List A) → All P l → All P (drop n l)
+  all-drop zero l h = h
+  all-drop (suc n) [] h = tt
+  all-drop (suc n) (x ∷ xs) h = all-drop n xs (h .1)

@@ -1,0 +1,5 @@
+pub mod Size
+pub mod Walk
+pub mod Steps
+pub mod Exact
+pub mod Placed

@@ -1,0 +1,107 @@
+use Rattle.block.proofs.Size.{SizeRight, size-right}
+use Rattle.block.specs.Judging.{wrongSize, judged}
+use Rattle.words.proofs.Laws.{words-slice}
+use Rattle.words.specs.Words.{wordsOf, xorAll}
+use denote.Ref.{now}
+use lib.Seq.{slice, length-slice}
+use lib.ListN.{length, getD, take}
+use lib.Count.{ones, ones-le}
+use lib.Bits.{bitXor, xor-lt}
+use native.Mathlib.Omega.{arith}
+use Prim.Native.Nat.{_-_, _^_, _<_}
+use mathlib.Core.Bool.{false}
+use mathlib.Core.Path.{_≡_, sym, ap, _∙_}
+use borrow.Author.Tests.{eq-eqb, ne-eqb}
+use borrow.Author.Needs.{needs}
+use Rattle.block.proofs.judge.Statement.{statement}
+use Rattle.block.proofs.judge.Tie as tie
+
+-- the size is right
+off : (c : tie.Else1) → wrongSize (length (now (c .before .before .before .args .block))) ≡ false
+off c = sym (c .before .wrong-size .ensures) ∙ c .if1 .left
+
+sized : (c : tie.After-count) → SizeRight (length (now (c .before .before .before .before .args .block))) (length (wordsOf (now (c .before .before .before .before .args .block))))
+sized c = size-right (now (c .before .before .before .before .args .block)) (off (c .before))
+
+-- word 1, the exclusive or and the record words are what the code has
+stated-is : (c : tie.After-words-said) → getD (wordsOf (now (c .before .before .before .before .before .before .args .block))) 0 0 ≡ c .words-said .result .0
+stated-is c = sym (c .words-said .ensures .0 ∙ c .before .word-at .ensures)
+
+computed-is : (c : tie.After-exclusive-or) → xorAll (take (c .before .before .before .before .before .before .count .result .0 - 1) (wordsOf (now (c .before .before .before .before .before .before .before .before .before .before .args .block)))) ≡ c .exclusive-or .result
+computed-is c =
+    sym (c .exclusive-or .ensures ∙ ap (λ l. xorAll (wordsOf l)) (c .before .part .ensures) ∙ ap xorAll (words-slice 0 (c .before .before .before .before .before .before .count .result .0 - 1) (now (c .before .before .before .before .before .before .before .before .before .before .args .block))))
+
+inner-is : (c : tie.After-part2) → wordsOf (now (c .part2 .result)) ≡ slice 1 (c .before .before .before .before .before .before .before .before .count .result .0 - 1) (wordsOf (now (c .before .before .before .before .before .before .before .before .before .before .before .before .args .block)))
+inner-is c = ap wordsOf (c .part2 .ensures) ∙ words-slice 1 (c .before .before .before .before .before .before .before .before .count .result .0 - 1) (now (c .before .before .before .before .before .before .before .before .before .before .before .before .args .block))
+
+wrong-size-requires : tie.Need-wrong-size-requires
+wrong-size-requires c κs = search needs
+
+returns : tie.Need-returns
+unfolding judged
+returns c = simp (sym (c .before .wrong-size .ensures) ∙ c .if1 .taken)
+
+count-requires : tie.Need-count-requires
+count-requires c κs = search needs
+
+word-at-requires : tie.Need-word-at-requires
+word-at-requires c κs = let s = sized c in omega arith
+
+words-said-requires : tie.Need-words-said-requires
+words-said-requires c κs = search needs
+
+returns-2 : tie.Need-returns-2
+unfolding judged
+returns-2 c = simp (off (c .before .before .before .before), stated-is (c .before), ← c .before .before .before .count .ensures, ne-eqb _ _ (c .if2 .taken))
+
+sub-t8 : tie.Need-sub-t8
+sub-t8 c = let s = sized (c .before .before .before) in omega arith
+
+word-at-requires-2 : tie.Need-word-at-requires-2
+word-at-requires-2 c κs = let s = sized (c .before .before .before) in omega arith
+
+part-requires : tie.Need-part-requires
+part-requires c κs = search needs
+
+exclusive-or-requires : tie.Need-exclusive-or-requires
+exclusive-or-requires c κs = search needs
+
+cast-t17 : tie.Need-cast-t17
+cast-t17 c = let x = c .before .before .before .word-at2 .result in let y = c .before .exclusive-or .result in
+    let hx : x < 2 ^ 16 = omega arith in
+    let hy : y < 2 ^ 16 = omega arith in
+    omega (arith, ones-le 16 (bitXor x y) (xor-lt 16 x y hx hy))
+
+returns-3 : tie.Need-returns-3
+unfolding judged
+returns-3 c = simp (off (c .before .before .before .before .before .before .before .before), stated-is (c .before .before .before .before .before), ← c .before .before .before .before .before .before .before .count .ensures, eq-eqb _ _ (c .before .before .before .before .if2 .left), ← c .before .before .before .word-at2 .ensures, computed-is (c .before), ne-eqb _ _ (c .if3 .taken))
+
+part-requires-2 : tie.Need-part-requires-2
+part-requires-2 c κs = let s = sized (c .before .before .before .before .before .before .before) in (omega arith, omega arith)
+
+judge-records-requires : tie.Need-judge-records-requires
+judge-records-requires c κs = let s = sized (c .before .before .before .before .before .before .before .before) in omega (arith, ap length (inner-is c), length-slice 1 (c .before .before .before .before .before .before .before .before .count .result .0 - 1) (wordsOf (now (c .before .before .before .before .before .before .before .before .before .before .before .before .args .block))) (omega arith))
+
+returns-4 : tie.Need-returns-4
+unfolding judged
+returns-4 c = simp (off (c .before .before .before .before .before .before .before .before .before .before), stated-is (c .before .before .before .before .before .before .before), ← c .before .before .before .before .before .before .before .before .before .count .ensures, eq-eqb _ _ (c .before .before .before .before .before .before .if2 .left), ← c .before .before .before .before .before .word-at2 .ensures, computed-is (c .before .before .before), eq-eqb _ _ (c .before .before .if3 .left), ← inner-is (c .before)) (c .judge-records .ensures)
+
+pub judge-spec : {M : Type 1} → statement M
+judge-spec =
+    tie.close
+    (tie.spec
+    wrong-size-requires
+    returns
+    count-requires
+    word-at-requires
+    words-said-requires
+    returns-2
+    sub-t8
+    word-at-requires-2
+    part-requires
+    exclusive-or-requires
+    cast-t17
+    returns-3
+    part-requires-2
+    judge-records-requires
+    returns-4)

@@ -1,0 +1,109 @@
+use Rattle.words.proofs.Laws.{length-wordsOf}
+use Rattle.block.proofs.Walk.{walk-stop, walk-on, walk-end, rest-words}
+use Rattle.block.specs.Judging.{walk}
+use Rattle.record.proofs.Passed.{passed-room}
+use Rattle.record.specs.Judging.{judgeRecord}
+use Rattle.record.specs.Cases.{checkedOf}
+use Rattle.words.specs.Words.{wordsOf}
+use Rattle.units.specs.Answers.{passed}
+use denote.Ref.{now}
+use lib.Seq.{drop-drop}
+use lib.ListN.{length, drop, length-drop, drop-of-length-le}
+use borrow.Author.Needs.{needs}
+use native.Mathlib.Omega.{arith}
+use Prim.Native.Nat.{_+_, _-_, _≤_}
+use mathlib.Core.List.{[]}
+use mathlib.Core.Path.{_≡_, refl, sym, ap, _∙_}
+use Rattle.block.proofs.judge_records.Statement.{statement}
+use Rattle.block.proofs.judge_records.Tie as tie
+
+abbrev Inv-loop : tie.InvT-loop
+Inv-loop inner last end at₀ number₀ at number = (1 ≤ number) × (number ≤ at + 1) × (at ≤ end)
+    × (walk 0 1 (wordsOf inner) ≡ walk 0 number (drop at (wordsOf inner)))
+
+abbrev μ-loop : tie.MeasureT-loop
+μ-loop inner last end at₀ number₀ at number = end - at
+
+-- in a turn, the record is judged in what is left
+left : (c : tie.After-part Inv-loop μ-loop) → wordsOf (now (c .part .result)) ≡ drop (c .before .before .loop .at) (wordsOf (now (c .before .before .before .before .before .args .inner)))
+left c = rest-words (now (c .before .before .before .before .before .args .inner)) (now (c .part .result)) (c .before .before .loop .at) (c .before .before .before .count .result .0) (c .before .before .before .count .ensures) (c .part .ensures)
+
+found : (c : tie.After-judge-record Inv-loop μ-loop) → checkedOf (c .judge-record .result) ≡ judgeRecord (c .before .before .before .loop .number) (drop (c .before .before .before .loop .at) (wordsOf (now (c .before .before .before .before .before .before .args .inner))))
+found c = c .judge-record .ensures ∙ ap (judgeRecord (c .before .before .before .loop .number)) (left (c .before))
+
+-- the record passed, and stands in what is left
+passes : (c : tie.After-size Inv-loop μ-loop) → judgeRecord (c .before .before .before .before .before .loop .number) (drop (c .before .before .before .before .before .loop .at) (wordsOf (now (c .before .before .before .before .before .before .before .before .args .inner)))) ≡ passed (c .size .given .0 .0 .0)
+passes c = sym (found (c .before .before)) ∙ ap checkedOf (c .size .given .1)
+
+fits : (c : tie.After-size Inv-loop μ-loop) → (16 ≤ c .size .given .0 .0 .0) × (c .before .before .before .before .before .loop .at + c .size .given .0 .0 .0 ≤ c .before .before .before .before .before .before .count .result .0)
+fits c =
+    let ws = wordsOf (now (c .before .before .before .before .before .before .before .before .args .inner)) in
+    let r = passed-room _ _ _ (passes c) in
+    let l = length-drop (c .before .before .before .before .before .loop .at) ws in
+    (r .least, omega (arith, r .most))
+
+count-requires : tie.Need-count-requires Inv-loop μ-loop
+count-requires c κs = tt
+
+loop-holds : tie.Need-loop-holds Inv-loop μ-loop
+loop-holds c = (omega arith, omega arith, omega arith, refl)
+
+part-requires : tie.Need-part-requires Inv-loop μ-loop
+part-requires c κs = (omega arith, omega arith)
+
+judge-record-requires : tie.Need-judge-record-requires Inv-loop μ-loop
+judge-record-requires c κs = tt
+
+enum-known-r : tie.Need-enum-known-r Inv-loop μ-loop
+enum-known-r c = search needs
+
+returns : tie.Need-returns Inv-loop μ-loop
+returns c = let ws = wordsOf (now (c .before .before .before .before .before .before .before .before .before .args .inner)) in let l = length-drop (c .before .before .before .before .before .before .loop .at) ws in
+    sym (c .before .before .before .before .before .before .loop .inv .3 ∙ walk-stop (c .before .before .before .before .before .before .loop .number) _ (drop (c .before .before .before .before .before .before .loop .at) ws) (omega arith) (sym (found (c .before .before .before)) ∙ ap checkedOf (c .before .r .given .1)))
+
+enum-known-size : tie.Need-enum-known-size Inv-loop μ-loop
+enum-known-size c = search needs
+
+add-at : tie.Need-add-at Inv-loop μ-loop
+add-at c = let f = fits (c .before) in omega (arith, length-wordsOf (now (c .before .before .before .before .before .before .before .before .before .args .inner)))
+
+add-number : tie.Need-add-number Inv-loop μ-loop
+add-number c = omega arith
+
+loop-less : tie.Need-loop-less Inv-loop μ-loop
+loop-less c = omega (arith, fits (c .before))
+
+loop-again : tie.Need-loop-again Inv-loop μ-loop
+loop-again c = let ws = wordsOf (now (c .before .before .before .before .before .before .before .before .before .args .inner)) in
+    let l = length-drop (c .before .before .before .before .before .before .loop .at) ws in
+    let f = fits (c .before) in
+    let on = walk-on (c .before .before .before .before .before .before .loop .number) (c .before .size .given .0 .0 .0) (drop (c .before .before .before .before .before .before .loop .at) ws) (omega arith) (passes (c .before)) in
+    (omega arith, omega arith, omega arith, c .before .before .before .before .before .before .loop .inv .3 ∙ on ∙ ap (walk 0 (c .before .before .before .before .before .before .loop .number + 1)) (drop-drop (c .before .size .given .0 .0 .0) (c .before .before .before .before .before .before .loop .at) ws))
+
+sub-t13 : tie.Need-sub-t13 Inv-loop μ-loop
+sub-t13 c = omega arith
+
+returns-2 : tie.Need-returns-2 Inv-loop μ-loop
+returns-2 c = let ws = wordsOf (now (c .before .before .before .before .args .inner)) in
+    let e : drop (c .before .loop .at) ws ≡ [] = drop-of-length-le ws {i = c .before .loop .at} (omega arith) in
+    sym (c .before .loop .inv .3 ∙ ap (walk 0 (c .before .loop .number)) e ∙ walk-end (c .before .loop .number))
+
+pub judge-records-spec : {M : Type 1} → statement M
+judge-records-spec =
+    tie.close
+    (tie.spec
+    Inv-loop
+    μ-loop
+    count-requires
+    loop-holds
+    part-requires
+    judge-record-requires
+    enum-known-r
+    returns
+    enum-known-size
+    add-at
+    add-number
+    loop-less
+    loop-again
+    sub-t13
+    returns-2)

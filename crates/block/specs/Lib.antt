@@ -1,0 +1,5 @@
+pub mod Judging
+pub mod Records
+pub mod Cases
+pub mod Steps
+pub mod Rules

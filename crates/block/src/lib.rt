@@ -1,0 +1,154 @@
+// A block: records end to end, with length word and checksum; the judge, one step to the next record, and finding one.
+use record::Checked;
+use record::Refusal;
+use units::Answer;
+use units::Bytes;
+use units::Words;
+ghost use mathlib.Core.Path.{_≡_};
+ghost use Prim.Native.Nat.{_<_, _≤_};
+ghost use lib.ListN.{length};
+ghost use Rattle.units.specs.Answers.{answer};
+ghost use Rattle.words.specs.Words.{wordsOf};
+ghost use Rattle.block.specs.Judging.{wrongSize, walk, judged};
+ghost use Rattle.block.specs.Cases.{judgedOf, answerOf};
+ghost use Rattle.block.specs.Steps.{stepOf, findOf};
+
+// What is found of a block: its records, or the first refusal.
+pub enum Judged {
+    Records(u16),
+    Size,
+    WordCount,
+    Checksum(u16),
+    Record(Refusal),
+}
+
+// The next record, with so many words of the block before it and so many of its own; or no more.
+pub enum Place {
+    Record(Words, Words),
+    NoMore,
+}
+
+// A byte count that is odd, under 36 or over 16,000.
+fn wrong_size(size: Bytes) -> bool
+    ensures { λ r. ⌜ r ≡ wrongSize (size .0) ⌝ }
+{
+    let bytes = size.0;
+    if bytes % 2 != 0 {
+        return true;
+    }
+    if bytes < 36 {
+        return true;
+    }
+    16000 < bytes
+}
+
+// The records of a block, which fill the words between its first and its last.
+fn judge_records(inner: &[u8]) -> Judged
+    requires { ⌜ length (wordsOf (now inner)) ≤ 8000 ⌝ }
+    ensures { λ r. ⌜ judgedOf r ≡ walk 0 1 (wordsOf (now (inner .entry))) ⌝ }
+{
+    let last = words::count(inner);
+    let end = last.0;
+    let mut at = 0;
+    let mut number: u16 = 1;
+    while at < end {
+        match record::judge_record(words::part(inner, Words(at), last), number) {
+            Checked::Refused(r) => return Judged::Record(r),
+            Checked::Passed(size) => {
+                let k = size.0;
+                at = at + k;
+                number += 1;
+            }
+        }
+    }
+    Judged::Records(number - 1)
+}
+
+// Judges a block: whether it keeps the rules of the format, and how many records it has.
+pub fn judge(block: &[u8]) -> Judged
+    ensures { λ r. ⌜ judgedOf r ≡ judged (now (block .entry)) ⌝ }
+{
+    if wrong_size(Bytes(block.len())) {
+        return Judged::Size;
+    }
+    let m = words::count(block).0;
+    let stated = units::words_said(words::word_at(block, Words(0))).0;
+    if stated != m {
+        return Judged::WordCount;
+    }
+    let last = Words(m - 1);
+    let stored = words::word_at(block, last);
+    let computed = words::exclusive_or(words::part(block, Words(0), last));
+    if stored != computed {
+        return Judged::Checksum(u16::count_ones(stored ^ computed) as u16);
+    }
+    judge_records(words::part(block, Words(1), last))
+}
+
+// The four numbers of an answer.
+pub fn numbers(j: Judged) -> Answer
+    ensures { λ r. ⌜ (r ≡ answerOf j) × (r .a < 65536) ⌝ }
+{
+    match j {
+        Judged::Records(k) => four(0, k, 0),
+        Judged::Size => four(1, 0, 0),
+        Judged::WordCount => four(2, 0, 0),
+        Judged::Checksum(bits) => four(3, 0, bits),
+        Judged::Record(r) => record::numbers(r),
+    }
+}
+
+// An answer with no b.
+fn four(n: u8, a: u16, c: u16) -> Answer
+    ensures { λ r. ⌜ (r ≡ answer n a 0 c) × (r .a < 65536) ⌝ }
+{
+    Answer {
+        n,
+        a: a as u32,
+        b: 0,
+        c,
+    }
+}
+
+// The record with `at` words of the block before it, or no more where none stands there.
+pub fn step(block: &[u8], at: Words) -> Place
+    ensures { λ r. ⌜ r ≡ stepOf (wordsOf (now (block .entry))) (at .0) ⌝ }
+{
+    let place = at.0;
+    let m = words::count(block).0;
+    if m <= place {
+        return Place::NoMore;
+    }
+    let size = units::words_said(words::word_at(block, at));
+    let k = size.0;
+    if k == 0 {
+        return Place::NoMore;
+    }
+    if m - 1 - place < k {
+        return Place::NoMore;
+    }
+    Place::Record(at, size)
+}
+
+// Record `number` of the block, or no more where it has not so many.
+pub fn find(block: &[u8], number: u16) -> Place
+    ensures { λ r. ⌜ r ≡ findOf (wordsOf (now (block .entry))) 1 number ⌝ }
+{
+    if number == 0 {
+        return Place::NoMore;
+    }
+    let mut at = 1;
+    let mut i: u16 = number;
+    while 1 < i {
+        match step(block, Words(at)) {
+            Place::NoMore => return Place::NoMore,
+            Place::Record(place, size) => {
+                let p = place.0;
+                let k = size.0;
+                at = p + k;
+                i -= 1;
+            }
+        }
+    }
+    step(block, Words(at))
+}

@@ -1,0 +1,46 @@
+-- Document 01, "The binary block": what a good record is, with no order of tests in it.
+use mathlib.Core.Path.{_≡_}
+use mathlib.Core.List.{List}
+use Prim.Native.Nat.{ℕ, _+_, _*_, _/_, _%_, _≤_, _<_}
+use lib.ListN.{length}
+use Rattle.words.specs.Words.{word, words, All, Below}
+use Rattle.record.specs.Judging.{wordsNeeded}
+
+-- "each from 32 to 126": both bytes of a card's word
+pub record CardWord (w : ℕ) : Type 0 where
+  pub high-least : 32 ≤ w / 256
+  pub high-most : w / 256 ≤ 126
+  pub low-least : 32 ≤ w % 256
+  pub low-most : w % 256 ≤ 126
+
+-- "LTOT is 40 times (1 + cards). Words 13 to 40 are zero"; a Header: "words 16 to 40 are zero"
+pub record CardsOk (z : ℕ) (r : List ℕ) : Type 0 where
+  pub cards : ℕ
+  pub size : length r ≡ 40 * (1 + cards)
+  pub zeros : All (λ w. w ≡ 0) (words r z 40)
+  pub printed : All CardWord (words r 41 (length r))
+
+-- "LPROL is at least 16, the others at least 0", in two's complement
+pub record Least (least w : ℕ) : Type 0 where
+  pub least-is : least ≤ w
+  pub sign : w < 32768
+
+-- "LTOT = LPROL + 2 JPAR + MPAR (NROW + 1)"
+pub record DataOk (r : List ℕ) : Type 0 where
+  pub lprol : Least 16 (word r 13)
+  pub jpar : Least 0 (word r 14)
+  pub mpar : Least 0 (word r 15)
+  pub nrow : Least 0 (word r 16)
+  pub sum : length r ≡ wordsNeeded (word r 13) (word r 14) (word r 15) (word r 16)
+
+-- "Catalogue, kind 2001", "Header, kind 3002", "Data, kind 1002"
+pub data KindOk (r : List ℕ) : Type 0 where
+  catalogue : word r 2 ≡ 2001 → CardsOk 13 r → KindOk r
+  header : word r 2 ≡ 3002 → CardsOk 16 r → KindOk r
+  dataRecord : word r 2 ≡ 1002 → DataOk r → KindOk r
+
+-- "In every record word 1 is LTOT": it is all of the record, and "No words may follow"
+pub record RecordOk (r : List ℕ) : Type 0 where
+  pub total : word r 1 ≡ length r
+  pub kind : KindOk r
+  pub sized : Below 65536 r
