@@ -18,6 +18,10 @@ unfolding bytesOf
 length-bytesOf [] = refl
 length-bytesOf (w ∷ ws) = let ih = length-bytesOf ws in omega arith
 
+-- both bytes of a word stand in the bytes
+pub word-room : (b : List ℕ) (i : ℕ) → i < length (wordsOf b) → i * 2 + 1 < length b
+word-room b i h = omega (arith, length-wordsOf b)
+
 getD-wordsOf : (b : List ℕ) (i : ℕ) → i * 2 + 1 < length b → getD (wordsOf b) i 0 ≡ getD b (i * 2) 0 * 256 + getD b (i * 2 + 1) 0
 unfolding wordsOf
 getD-wordsOf [] i h = absurd (omega arith)
@@ -29,8 +33,8 @@ getD-wordsOf (x ∷ y ∷ r) (suc i) h =
     rw (f, e) (getD-wordsOf r i (omega arith))
 
 -- a word is its two bytes, where the high byte's place is known by an equation
-pub word-bytes : (b : List ℕ) (i high : ℕ) → high ≡ i * 2 → i * 2 + 1 < length b → getD (wordsOf b) i 0 ≡ getD b high 0 * 256 + getD b (high + 1) 0
-word-bytes b i high e h = rw e (getD-wordsOf b i h)
+pub word-bytes : (b : List ℕ) (i high : ℕ) → high ≡ i * 2 → i < length (wordsOf b) → getD (wordsOf b) i 0 ≡ getD b high 0 * 256 + getD b (high + 1) 0
+word-bytes b i high e h = rw e (getD-wordsOf b i (word-room b i h))
 
 -- the bytes of a block's words are the block
 pub bytes-words : (b : List ℕ) → length b % 2 ≡ 0 → Below 256 b → bytesOf (wordsOf b) ≡ b

@@ -5,10 +5,10 @@ use mathlib.Core.List.{List, [], _∷_, _++_}
 use native.Mathlib.Numerals.{add-one}
 use native.Mathlib.Omega.{arith}
 use lib.Arith.{bin-ind}
-use lib.Bits.{bitXor, differ, xor-step, xor-comm, xor-self, xor-zero-r, xor-shr}
+use lib.Bits.{bitXor, differ, xor-step, xor-comm, xor-self, xor-zero-r, xor-shr, xor-mod, xor-block}
 use lib.ListN.{length, getD, take, set}
 use lib.Seq.{take-suc}
-use Rattle.words.specs.Words.{wordsOf, xorAll}
+use Rattle.words.specs.Words.{xorAll, swapped}
 
 differ-bit : (x y : ℕ) → x < 2 → y < 2 → differ x y < 2
 differ-bit zero y hx hy = hy
@@ -49,14 +49,23 @@ xor-assoc =
 pub xor-twice : (a b : ℕ) → bitXor (bitXor a b) b ≡ a
 xor-twice a b = xor-assoc a b b ∙ ap (bitXor a) (xor-self b) ∙ xor-zero-r a
 
+-- swapping the bytes before or after is the same
+swap-xor : (a b : ℕ) → a < 65536 → b < 65536 → swapped (bitXor a b) ≡ bitXor (swapped a) (swapped b)
+unfolding swapped
+swap-xor a b ha hb =
+    rw (xor-mod a b 8, xor-shr a b 8)
+    (sym (xor-block 8 (a % 256) (b % 256) (a / 256) (b / 256) (omega arith) (omega arith)))
+
 xorAll-snoc : (ws : List ℕ) (w : ℕ) → xorAll (ws ++ (w ∷ [])) ≡ bitXor (xorAll ws) w
 unfolding xorAll
 xorAll-snoc [] w = xor-zero-r w
 xorAll-snoc (x ∷ ws) w = ap (bitXor x) (xorAll-snoc ws w) ∙ sym (xor-assoc x (xorAll ws) w)
 
--- one word more under the fold
-pub fold-on : (ws : List ℕ) (i w : ℕ) → i < length ws → w ≡ getD ws i 0 → bitXor (xorAll (take i ws)) w ≡ xorAll (take (i + 1) ws)
-fold-on ws i w h e = rw (add-one, take-suc ws i 0 h, xorAll-snoc, e)
+-- one word more under the fold, where both are held with their bytes swapped
+pub fold-on : (ws : List ℕ) (i x w : ℕ) → x < 65536 → w < 65536 → i < length ws → swapped w ≡ getD ws i 0 → swapped x ≡ xorAll (take i ws)
+    → swapped (bitXor x w) ≡ xorAll (take (i + 1) ws)
+fold-on ws i x w hx hw h e f =
+    swap-xor x w hx hw ∙ rw (add-one, take-suc ws i 0 h, xorAll-snoc) (ap₂ bitXor f e)
 
 -- a word changed in its place: the old one goes out, the new one goes in
 pub fold-patched : (ws : List ℕ) (i w : ℕ) → i < length ws → xorAll (set ws i w) ≡ bitXor (bitXor (xorAll ws) (getD ws i 0)) w

@@ -16,6 +16,10 @@ unfoldable pub bytesOf : List ℕ → List ℕ
 bytesOf [] = []
 bytesOf (w ∷ ws) = (w / 256) ∷ (w % 256) ∷ bytesOf ws
 
+-- a word with its two bytes swapped: how a machine that has the low byte first reads it
+unfoldable pub swapped : ℕ → ℕ
+swapped w = w % 256 * 256 + w / 256
+
 -- word k, counted from 1 as the paper does
 abbrev pub word : List ℕ → ℕ → ℕ
 word ws k = getD ws (k - 1) 0

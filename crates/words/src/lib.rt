@@ -6,7 +6,7 @@ ghost use mathlib.Core.List.{_∷_, []};
 ghost use Prim.Native.Nat.{_*_, _<_, _≤_};
 ghost use lib.ListN.{length, getD};
 ghost use lib.Seq.{sets, slice};
-ghost use Rattle.words.specs.Words.{wordsOf, bytesOf, xorAll};
+ghost use Rattle.words.specs.Words.{wordsOf, bytesOf, xorAll, swapped};
 
 fn wide(x: u8) -> u16
     ensures { λ r. ⌜ (r ≡ x) × (r < 256) ⌝ }
@@ -51,7 +51,24 @@ pub fn put_word(part: &mut [u8], at: Words, w: u16)
     part[low] = (w % 256) as u8;
 }
 
-// The exclusive or of all words of a part.
+// A word with its two bytes swapped.
+fn swap(w: u16) -> u16
+    ensures { λ r. ⌜ r ≡ swapped w ⌝ }
+{
+    let high = w / 256;
+    w % 256 * 256 + high
+}
+
+// The word with `at` words before it, read low byte first.
+fn swapped_at(part: &[u8], at: Words) -> u16
+    requires { ⌜ at .0 < length (wordsOf (now part)) ⌝ }
+    ensures { λ r. ⌜ swapped r ≡ getD (wordsOf (now (part .entry))) (at .0) 0 ⌝ }
+{
+    let high = units::bytes_of_words(at).0;
+    wide(part[high]) + wide(part[high + 1]) * 256
+}
+
+// The exclusive or of all words of a part: the fold takes them as the machine reads them, low byte first, and is swapped once.
 pub fn exclusive_or(part: &[u8]) -> u16
     ensures { λ r. ⌜ r ≡ xorAll (wordsOf (now (part .entry))) ⌝ }
 {
@@ -59,8 +76,8 @@ pub fn exclusive_or(part: &[u8]) -> u16
     let mut x: u16 = 0;
     let mut i = 0;
     while i < end {
-        x = x ^ word_at(part, Words(i));
+        x = x ^ swapped_at(part, Words(i));
         i += 1;
     }
-    x
+    swap(x)
 }

@@ -6,31 +6,22 @@ use native.Mathlib.Omega.{arith}
 use borrow.Author.Needs.{needs}
 use Rattle.words.proofs.part.Statement.{statement}
 use Rattle.words.proofs.part.Tie as tie
-use Rattle.words.proofs.part.Reads as reads
-use Rattle.words.proofs.part.Lts as lts
-use Rattle.units.proofs.bytes_of_words.Reads as bytes-of-words-reads
 
--- src/lib.rt:38:17
 bytes-of-words-requires : tie.Need-bytes-of-words-requires
 bytes-of-words-requires c κs = omega (arith, c .before .pre .0, c .before .pre .1, length-wordsOf (now (c .before .args .whole)))
 
--- src/lib.rt:39:15
 bytes-of-words-requires-2 : tie.Need-bytes-of-words-requires-2
 bytes-of-words-requires-2 c κs = omega (arith, c .before .before .pre .1, length-wordsOf (now (c .before .before .args .whole)))
 
--- src/lib.rt:40:5
 sub-result : tie.Need-sub-result
 sub-result c = search needs
 
--- src/lib.rt:40:5
 part-result-start : tie.Need-part-result-start
 part-result-start c = search needs
 
--- src/lib.rt:40:5
 part-result-end : tie.Need-part-result-end
 part-result-end c = omega (arith, c .before .before .before .pre .1, length-wordsOf (now (c .before .before .before .args .whole)))
 
--- src/lib.rt:34:1
 returns : tie.Need-returns
 returns c = let s = c .before .before .before .before in
     rw (c .before .bytes-of-words2 .ensures, c .before .before .bytes-of-words .ensures) (part-slice (s .args .from .0 * 2) (s .args .upto .0 * 2) (now (s .args .whole)) (omega (arith, s .pre .0)))

@@ -1,20 +1,15 @@
-use Rattle.words.proofs.Laws.{length-wordsOf}
+use Rattle.words.proofs.Laws.{word-room}
 use denote.Ref.{now}
-use Prim.Native.Nat.{_+_, _*_, _<_}
 use Rattle.words.specs.Words.{bytesOf}
-use lib.ListN.{length, length-set}
+use lib.ListN.{length-set}
 use native.Mathlib.Omega.{arith}
 use native.Mathlib.Numerals.{add-one}
 use borrow.Author.Needs.{needs}
 use Rattle.words.proofs.put_word.Statement.{statement}
 use Rattle.words.proofs.put_word.Tie as tie
 
--- the two bytes of the word stand in the part
-room : (c : tie.Start) → c .args .at .0 * 2 + 1 < length (now (c .args .part))
-room c = omega (arith, length-wordsOf (now (c .args .part)))
-
 bytes-of-words-requires : tie.Need-bytes-of-words-requires
-bytes-of-words-requires c κs = omega (arith, room (c .before))
+bytes-of-words-requires c κs = omega (arith, word-room (now (c .before .args .part)) (c .before .args .at .0) (c .before .pre))
 
 add-low : tie.Need-add-low
 add-low c = search needs
@@ -23,13 +18,13 @@ cast-part : tie.Need-cast-part
 cast-part c = search needs
 
 slice-write-part : tie.Need-slice-write-part
-slice-write-part c = omega (arith, room (c .before .before))
+slice-write-part c = omega (arith, word-room (now (c .before .before .args .part)) (c .before .before .args .at .0) (c .before .before .pre))
 
 cast-part-2 : tie.Need-cast-part-2
 cast-part-2 c = search needs
 
 slice-write-part-2 : tie.Need-slice-write-part-2
-slice-write-part-2 c = simp length-set (omega (arith, room (c .before .before)))
+slice-write-part-2 c = simp length-set (omega (arith, word-room (now (c .before .before .args .part)) (c .before .before .args .at .0) (c .before .before .pre)))
 
 same-length : tie.Need-same-length
 same-length c = search needs

@@ -1,21 +1,15 @@
-use lib.ListN.{length}
-use Prim.Native.Nat.{_+_, _*_, _<_}
-use Rattle.words.proofs.Laws.{length-wordsOf, word-bytes}
+use Rattle.words.proofs.Laws.{word-room, word-bytes}
 use denote.Ref.{now}
 use native.Mathlib.Omega.{arith}
 use borrow.Author.Needs.{needs}
 use Rattle.words.proofs.word_at.Statement.{statement}
 use Rattle.words.proofs.word_at.Tie as tie
 
--- the two bytes of the word stand in the part
-room : (c : tie.Start) → c .args .at .0 * 2 + 1 < length (now (c .args .part))
-room c = omega (arith, length-wordsOf (now (c .args .part)))
-
 bytes-of-words-requires : tie.Need-bytes-of-words-requires
-bytes-of-words-requires c κs = omega (arith, room (c .before))
+bytes-of-words-requires c κs = omega (arith, word-room (now (c .before .args .part)) (c .before .args .at .0) (c .before .pre))
 
 shared-slice-read-wide : tie.Need-shared-slice-read-wide
-shared-slice-read-wide c = omega (arith, room (c .before .before .before))
+shared-slice-read-wide c = omega (arith, word-room (now (c .before .before .before .args .part)) (c .before .before .before .args .at .0) (c .before .before .before .pre))
 
 wide-requires : tie.Need-wide-requires
 wide-requires c κs = search needs
@@ -27,7 +21,7 @@ add-wide : tie.Need-add-wide
 add-wide c = search needs
 
 shared-slice-read-wide-2 : tie.Need-shared-slice-read-wide-2
-shared-slice-read-wide-2 c = omega (arith, room (c .before .before .before .before .before))
+shared-slice-read-wide-2 c = omega (arith, word-room (now (c .before .before .before .before .before .args .part)) (c .before .before .before .before .before .args .at .0) (c .before .before .before .before .before .pre))
 
 wide-requires-2 : tie.Need-wide-requires-2
 wide-requires-2 c κs = search needs
@@ -37,7 +31,7 @@ add-result c = search needs
 
 returns : tie.Need-returns
 returns c = let s = c .before .before .before .before .before .before in
-    omega (arith, word-bytes (now (s .args .part)) (s .args .at .0) (c .before .before .before .before .bytes-of-words .result .0) (c .before .before .before .before .bytes-of-words .ensures) (room s))
+    omega (arith, word-bytes (now (s .args .part)) (s .args .at .0) (c .before .before .before .before .bytes-of-words .result .0) (c .before .before .before .before .bytes-of-words .ensures) (s .pre))
 
 pub word-at-spec : {M : Type 1} → statement M
 word-at-spec =

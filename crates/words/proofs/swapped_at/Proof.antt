@@ -1,0 +1,50 @@
+use Rattle.words.proofs.Laws.{word-room, word-bytes}
+use Rattle.words.specs.Words.{swapped}
+use denote.Ref.{now}
+use native.Mathlib.Omega.{arith}
+use borrow.Author.Needs.{needs}
+use Rattle.words.proofs.swapped_at.Statement.{statement}
+use Rattle.words.proofs.swapped_at.Tie as tie
+
+bytes-of-words-requires : tie.Need-bytes-of-words-requires
+bytes-of-words-requires c κs = omega (arith, word-room (now (c .before .args .part)) (c .before .args .at .0) (c .before .pre))
+
+shared-slice-read-wide : tie.Need-shared-slice-read-wide
+shared-slice-read-wide c = omega (arith, word-room (now (c .before .before .before .args .part)) (c .before .before .before .args .at .0) (c .before .before .before .pre))
+
+wide-requires : tie.Need-wide-requires
+wide-requires c κs = search needs
+
+add-wide : tie.Need-add-wide
+add-wide c = search needs
+
+shared-slice-read-wide-2 : tie.Need-shared-slice-read-wide-2
+shared-slice-read-wide-2 c = omega (arith, word-room (now (c .before .before .before .before .before .args .part)) (c .before .before .before .before .before .args .at .0) (c .before .before .before .before .before .pre))
+
+wide-requires-2 : tie.Need-wide-requires-2
+wide-requires-2 c κs = search needs
+
+mul-result : tie.Need-mul-result
+mul-result c = search needs
+
+add-result : tie.Need-add-result
+add-result c = search needs
+
+returns : tie.Need-returns
+unfolding swapped
+returns c = let s = c .before .before .before .before .before .before in
+    omega (arith, word-bytes (now (s .args .part)) (s .args .at .0) (c .before .before .before .before .bytes-of-words .result .0) (c .before .before .before .before .bytes-of-words .ensures) (s .pre))
+
+pub swapped-at-spec : {M : Type 1} → statement M
+swapped-at-spec =
+    tie.close
+    (tie.spec
+    bytes-of-words-requires
+    shared-slice-read-wide
+    wide-requires
+    add-wide
+    shared-slice-read-wide-2
+    wide-requires-2
+    mul-result
+    add-result
+    returns)
