@@ -14,11 +14,13 @@ use Rattle.units.specs.Answers.{passed}
 use Rattle.words.specs.Words.{wordsOf, word, joined, framed, All, Below}
 use Rattle.words.proofs.Laws.{joined-append}
 use Rattle.record.specs.Rules.{RecordOk}
-use Rattle.block.specs.declared.Place.the-variants.{NoMore}
+use Rattle.units.specs.declared.Words.{Words}
+use Rattle.block.specs.declared.Place.the-variants.{Record, NoMore}
 use Rattle.block.specs.Judging.{judged}
 use Rattle.block.specs.Records.{recordsOf}
 use Rattle.block.specs.Rules.{IsBlock}
 use Rattle.block.specs.Steps.{recordAt, stepOf, past, findOf, placed}
+use Rattle.block.proofs.Steps.{step-found}
 use Rattle.block.proofs.Exact.{ok-long, only-good, words-are}
 
 -- these records stand from a place on, and one word, the checksum, behind them
@@ -76,6 +78,42 @@ finds ws x (r ∷ rs) at (suc n) h e =
     rw (stands-one ws at x r rs (h .0) e)
     (ap (λ s. if eqb n 0 then recordAt at (length r) else s) (finds ws x rs (at + length r) n (h .1) (stands-on ws at x r rs (h .0) e)))
 
+-- good records that are left from a place on: what a walk by steps keeps
+pub record Left (ws : List ℕ) (at : ℕ) (rs : List (List ℕ)) : Type 0 where
+  pub each : All RecordOk rs
+  pub checksum : ℕ
+  pub stand : drop at ws ≡ joined rs ++ (checksum ∷ [])
+
+-- a step that finds a record has found the first that is left
+pub record Turn (ws : List ℕ) (at place size : ℕ) (rs : List (List ℕ)) : Type 0 where
+  pub first : List ℕ
+  pub others : List (List ℕ)
+  pub are : rs ≡ first ∷ others
+  pub ok : RecordOk first
+  pub here : place ≡ at
+  pub size-is : size ≡ length first
+  pub long : 16 ≤ size
+  pub within : at + size < length ws
+  pub left : Left ws (at + size) others
+
+pub turn : (ws : List ℕ) (at : ℕ) (place size : Words) (rs : List (List ℕ)) → Left ws at rs → stepOf ws at ≡ Record place size → Turn ws at (place .0) (size .0) rs
+turn ws at place size [] l e = let n = stands-none ws at (l .checksum) (l .stand) in let z : _≡_ {A = ℕ} 0 1 = cc in absurd (omega arith)
+turn ws at place size (r ∷ rs) l e =
+    let one = stands-one ws at (l .checksum) r rs (l .each .0) (l .stand) in
+    let f = step-found ws at place size e in
+    let k : size .0 ≡ length r = cc in
+    record {
+      first = r;
+      others = rs;
+      are = refl;
+      ok = l .each .0;
+      here = f .here;
+      size-is = k;
+      long = omega (arith, ok-long r (l .each .0));
+      within = f .within;
+      left = rw k (record { each = l .each .1; checksum = l .checksum; stand = stands-on ws at (l .checksum) r rs (l .each .0) (l .stand) });
+    }
+
 -- behind the records before it stands the next one
 steps : (ws : List ℕ) (x : ℕ) (before : List (List ℕ)) (at : ℕ) (after : List (List ℕ)) → Stand ws at (before ++ after) x → Stand ws (at + length (joined before)) after x
 steps ws x before at after e =
@@ -94,6 +132,10 @@ module _ (b : List ℕ) (k : ℕ) (bytes : Below 256 b) (accepted : judged b ≡
   stand : (x : ℕ) × Stand (wordsOf b) 1 (recordsOf b) x
   unfolding framed
   stand = (_, ap (drop 1) (words-are b (recordsOf b) good))
+
+  -- at the start all records are left
+  pub all-left : Left (wordsOf b) 1 (recordsOf b)
+  all-left = record { each = good .each; checksum = stand .0; stand = stand .1 }
 
   pub step-record : (before after : List (List ℕ)) (r : List ℕ) → recordsOf b ≡ before ++ r ∷ after
       → stepOf (wordsOf b) (1 + length (joined before)) ≡ recordAt (1 + length (joined before)) (length r)

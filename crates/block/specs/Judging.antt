@@ -1,6 +1,7 @@
 -- Document 01, "The binary block" and "Answer numbers": judging a block's bytes.
 use Prim.Native.Nat.{ℕ, zero, suc, _+_, _-_, _%_}
 use mathlib.Core.List.{List, [], _∷_}
+use mathlib.Core.Path.{_≡_}
 use mathlib.Core.Bool.{Bool, not, _||_}
 use lib.Bits.{bitXor}
 use lib.Count.{ones}
@@ -38,3 +39,8 @@ judged b =
     else if not (eqb (word ws 1) (length ws)) then refused (answer 2 0 0 0)
     else if not (eqb stored (computed ws)) then refused (answer 3 0 0 (ones (bitXor stored (computed ws))))
     else walk 0 1 (inner ws)
+
+-- a block that is accepted, with so many records
+pub record Accepted (b : List ℕ) : Type 0 where
+  pub count : ℕ
+  pub is : judged b ≡ passed count
