@@ -1,28 +1,26 @@
 -- A block is accepted exactly where it keeps the rules, and it can be cut into records in one way only.
 use mathlib.Core.Path.{_≡_, refl, sym, ap, ap₂, _∙_}
-use mathlib.Core.Bool.{Bool, true, false, not}
+use mathlib.Core.Bool.{not}
 use mathlib.Core.List.{List, [], _∷_, _++_}
-use Prim.Native.Nat.{ℕ, zero, suc, _+_, _-_, _*_, _%_, _≤_, _<_}
+use Prim.Native.Nat.{ℕ, zero, suc, _+_, _-_, _*_, _≤_, _<_}
 use native.Mathlib.Numerals.{sub-one}
 use native.Mathlib.Omega.{arith}
 use borrow.Author.Tests.{eqb-true, not-false, eq-eqb}
-use lib.Bits.{bitXor}
 use lib.Dec.{eqb}
 use lib.ListN.{length, getD, take, drop, drop-of-length-le, length-append, take-append-drop}
 use lib.Seq.{slice, drop-nil, length-take-le, getD-take, length-slice, drop-append-seam, take-append-seam, take-at, getD-at, drop-cons}
-use Rattle.units.specs.declared.Answer.{Answer}
-use Rattle.units.specs.Answers.{answer, Verdict, passed, refused, onward}
+use Rattle.units.specs.Answers.{answer, Verdict, passed, refused}
 use Rattle.units.proofs.Verdicts.{never-passed, else-passed}
 use Rattle.words.specs.Words.{wordsOf, bytesOf, xorAll, word, joined, framed, All, Below}
-use Rattle.words.proofs.Laws.{length-wordsOf, length-bytesOf, bytes-words, words-bytes, words-below}
+use Rattle.words.proofs.Laws.{length-bytesOf, bytes-words, words-bytes, words-below}
 use Rattle.words.proofs.Lists.{all-take, all-drop}
 use Rattle.record.specs.Judging.{judgeRecord}
 use Rattle.record.specs.Rules.{RecordOk}
-use Rattle.record.proofs.Passed.{RecordPassed, Room, record-passed, passed-room, passed-record}
+use Rattle.record.proofs.Passed.{record-passed, passed-room, passed-record}
 use Rattle.record.proofs.Exact.{record-ok, ok-passes}
 use Rattle.block.specs.Judging.{wrongSize, inner, computed, walk, judged}
 use Rattle.block.specs.Records.{cut, recordsOf}
-use Rattle.block.specs.Rules.{IsBlock, blockOf}
+use Rattle.block.specs.Rules.{IsBlock}
 use Rattle.block.proofs.Size.{SizeRight, size-right, right-size}
 use Rattle.block.proofs.Walk.{walk-on, walk-end}
 

@@ -1,17 +1,16 @@
 -- A step to the next record, and record n, a turn at a time.
-use mathlib.Core.Path.{_≡_, refl, sym, ap, _∙_}
+use mathlib.Core.Path.{_≡_, refl, sym}
 use mathlib.Core.Bool.{Bool, true, false, _||_}
-use mathlib.Core.List.{List, [], _∷_}
+use mathlib.Core.List.{List}
 use Prim.Native.Nat.{ℕ, zero, suc, _+_, _-_, _≤_, _<_}
 use native.Mathlib.Numerals.{sub-one}
 use native.Mathlib.Omega.{arith}
-use borrow.Author.Tests.{ltb-false, eqb-false, eq-eqb, ne-eqb}
+use borrow.Author.Tests.{ltb-false, eqb-false, ne-eqb}
 use lib.Dec.{ltb, eqb}
 use lib.ListN.{length, getD, List·getD-eq-default}
 use Rattle.units.specs.Choice.{if_then_else_}
 use Rattle.units.proofs.Verdicts.{or-off}
 use Rattle.units.specs.declared.Words.{Words}
-use Rattle.block.specs.declared.Place.{Place}
 use Rattle.block.specs.declared.Place.the-variants.{Record, NoMore}
 use Rattle.block.specs.Steps.{recordAt, stepOf, past, findOf}
 

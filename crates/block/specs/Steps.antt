@@ -5,7 +5,6 @@ use mathlib.Core.Bool.{_||_}
 use lib.Dec.{ltb, eqb}
 use lib.ListN.{length, getD}
 use Rattle.units.specs.Choice.{if_then_else_}
-use Rattle.units.specs.declared.Words.{Words}
 use Rattle.block.specs.declared.Place.{Place}
 use Rattle.block.specs.declared.Place.the-variants.{Record, NoMore}
 

@@ -2,19 +2,19 @@
 use mathlib.Core.Path.{_≡_, refl, sym, ap, _∙_}
 use mathlib.Core.Bool.{Bool, true, false}
 use mathlib.Core.List.{List, [], _∷_, _++_}
-use Prim.Native.Nat.{ℕ, suc, _+_, _-_, _*_, _/_, _%_, _≤_, _<_}
+use Prim.Native.Nat.{ℕ, suc, _+_, _-_, _/_, _%_, _≤_, _<_}
 use native.Mathlib.Omega.{arith}
 use borrow.Author.Tests.{leb-true, eqb-true, le-leb, eq-eqb}
 use lib.Dec.{leb}
-use lib.ListN.{length, getD, take, drop, length-append, List·getD-append}
+use lib.ListN.{length, getD, take, length-append, List·getD-append}
 use lib.Seq.{slice, length-take-le, getD-take, take-take, take-append-le, length-slice}
 use Rattle.units.specs.Choice.{if_then_else_}
 use Rattle.units.proofs.Verdicts.{and-on}
-use Rattle.words.specs.Words.{word, words, All, Below}
+use Rattle.words.specs.Words.{word, All, Below}
 use Rattle.words.proofs.Lists.{all-take}
 use Rattle.record.specs.Judging.{passing, within, wordWithin, isZero, cardWord, firstNotZero, firstNotCard}
 use Rattle.record.specs.Rules.{CardWord, CardsOk, DataOk, KindOk, catalogue, header, dataRecord, RecordOk}
-use Rattle.record.proofs.Passed.{TotalRight, CardsPassed, DataPassed, RecordPassed, a-catalogue, a-header, a-data}
+use Rattle.record.proofs.Passed.{CardsPassed, DataPassed, RecordPassed, a-catalogue, a-header, a-data}
 
 -- ---- a scan that finds no offender, and the other way
 

@@ -1,10 +1,10 @@
 -- What is known of a record that passed, and that it passes where this is known.
-use mathlib.Core.Path.{_≡_, refl, sym, ap, _∙_}
+use mathlib.Core.Path.{_≡_, refl, sym, _∙_}
 use mathlib.Core.Bool.{Bool, true, false, not, _||_}
 use mathlib.Core.List.{List}
-use Prim.Native.Nat.{ℕ, _+_, _*_, _/_, _%_, _≤_, _<_}
+use Prim.Native.Nat.{ℕ, _%_, _≤_, _<_}
 use native.Mathlib.Omega.{arith}
-use borrow.Author.Tests.{ltb-false, leb-false, leb-true, eqb-true, eqb-false, not-false, le-ltb, lt-leb, le-leb, eq-eqb, ne-eqb}
+use borrow.Author.Tests.{ltb-false, leb-false, eqb-true, not-false, le-ltb, lt-leb, eq-eqb}
 use lib.Dec.{ltb, leb, eqb}
 use lib.ListN.{length}
 use Rattle.units.specs.Choice.{if_then_else_}
@@ -12,7 +12,7 @@ use Rattle.units.specs.Answers.{answer, passed, refused}
 use Rattle.units.proofs.Verdicts.{never-passed, else-passed, or-off}
 use Rattle.words.specs.Words.{word, words}
 use Rattle.record.specs.Rules.{Least}
-use Rattle.record.specs.Judging.{wordWithin, wrongTotal, firstNotZero, firstNotCard, wordsNeeded, underLeast, judgeCards, judgeCounts, judgeData, judgeRecord}
+use Rattle.record.specs.Judging.{wrongTotal, firstNotZero, firstNotCard, wordsNeeded, underLeast, judgeCards, judgeCounts, judgeData, judgeRecord}
 
 -- a total that is right
 pub record TotalRight (total left : ℕ) : Type 0 where

@@ -5,7 +5,7 @@ use mathlib.Core.List.{List, [], _∷_, _++_, append-assoc}
 use native.Mathlib.Omega.{arith}
 use lib.ListN.{length, getD, take, drop}
 use lib.Seq.{slice, drop-nil}
-use Rattle.words.specs.Words.{wordsOf, bytesOf, joined, All, Below}
+use Rattle.words.specs.Words.{wordsOf, bytesOf, joined, Below}
 
 pub length-wordsOf : (b : List ℕ) → length (wordsOf b) ≡ length b / 2
 unfolding wordsOf
@@ -86,3 +86,8 @@ pub joined-append : (rs ss : List (List ℕ)) → joined (rs ++ ss) ≡ joined r
 unfolding joined
 joined-append [] ss = refl
 joined-append (r ∷ rs) ss = ap (λ t. r ++ t) (joined-append rs ss) ∙ sym (append-assoc r (joined rs) (joined ss))
+
+pub getD-below : (n : ℕ) (l : List ℕ) (i : ℕ) → 0 < n → Below n l → getD l i 0 < n
+getD-below n [] i h b = h
+getD-below n (x ∷ xs) zero h b = b .0
+getD-below n (x ∷ xs) (suc i) h b = getD-below n xs i h (b .1)

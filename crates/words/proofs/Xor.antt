@@ -1,14 +1,14 @@
 -- The exclusive or is associative, as it is commutative and its own inverse; and what that says of the fold over words.
 use mathlib.Core.Path.{_≡_, refl, sym, ap, ap₂, _∙_}
-use Prim.Native.Nat.{ℕ, zero, suc, _+_, _*_, _/_, _%_, _<_}
+use Prim.Native.Nat.{ℕ, zero, suc, _+_, _*_, _/_, _%_, _^_, _<_}
 use mathlib.Core.List.{List, [], _∷_, _++_}
 use native.Mathlib.Numerals.{add-one}
 use native.Mathlib.Omega.{arith}
 use lib.Arith.{bin-ind}
-use lib.Bits.{bitXor, differ, xor-step, xor-comm, xor-self, xor-zero-r, xor-shr, xor-mod, xor-block}
+use lib.Bits.{bitXor, differ, xor-step, xor-comm, xor-self, xor-zero-r, xor-lt, xor-shr, xor-mod, xor-block}
 use lib.ListN.{length, getD, take, set}
 use lib.Seq.{take-suc}
-use Rattle.words.specs.Words.{xorAll, swapped}
+use Rattle.words.specs.Words.{xorAll, swapped, Below}
 
 differ-bit : (x y : ℕ) → x < 2 → y < 2 → differ x y < 2
 differ-bit zero y hx hy = hy
@@ -77,3 +77,8 @@ fold-patched (x ∷ ws) (suc i) w h =
     ap (bitXor x) (fold-patched ws i w (omega arith))
     ∙ sym (xor-assoc x (bitXor (xorAll ws) (getD ws i 0)) w)
     ∙ ap (λ y. bitXor y w) (sym (xor-assoc x (xorAll ws) (getD ws i 0)))
+
+pub fold-below : (ws : List ℕ) → Below 65536 ws → xorAll ws < 2 ^ 16
+unfolding xorAll
+fold-below [] h = omega arith
+fold-below (w ∷ ws) h = xor-lt 16 w (xorAll ws) (h .0) (fold-below ws (h .1))

@@ -5,7 +5,7 @@ use Rattle.words.specs.Words.{wordsOf, xorAll}
 use denote.Ref.{now}
 use lib.Seq.{slice, length-slice}
 use lib.ListN.{length, getD, take}
-use lib.Count.{ones, ones-le}
+use lib.Count.{ones-le}
 use lib.Bits.{bitXor, xor-lt}
 use native.Mathlib.Omega.{arith}
 use Prim.Native.Nat.{_-_, _^_, _<_}

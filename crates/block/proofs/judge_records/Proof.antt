@@ -8,7 +8,7 @@ use Rattle.words.specs.Words.{wordsOf}
 use Rattle.units.specs.Answers.{passed}
 use denote.Ref.{now}
 use lib.Seq.{drop-drop}
-use lib.ListN.{length, drop, length-drop, drop-of-length-le}
+use lib.ListN.{drop, length-drop, drop-of-length-le}
 use borrow.Author.Needs.{needs}
 use native.Mathlib.Omega.{arith}
 use Prim.Native.Nat.{_+_, _-_, _≤_}

@@ -1,5 +1,4 @@
 use Rattle.record.specs.Lines.{lineCount}
-use mathlib.Core.Path.{_≡_, sym, ap, _∙_}
 use borrow.Author.Tests.{eq-eqb, ne-eqb}
 use borrow.Author.Needs.{needs}
 use Rattle.record.proofs.line_count.Statement.{statement}

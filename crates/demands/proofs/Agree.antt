@@ -1,0 +1,54 @@
+-- The promises agree.
+use mathlib.Core.Path.{_≡_, refl, sym, ap, _∙_}
+use Prim.Native.Nat.{ℕ}
+use lib.Dec.{eqb}
+use Rattle.units.specs.Choice.{if_then_else_}
+use Rattle.units.specs.Answers.{Verdict, passed, refused}
+use Rattle.record.specs.declared.Refusal.the-variants.{Short, Kind, Total, NotZero, Card, Counts}
+use Rattle.block.specs.declared.Judged.{Judged}
+use Rattle.block.specs.declared.Judged.the-variants.{Records, Size, WordCount, Checksum, Record}
+use Rattle.block.specs.Cases.{judgedOf}
+use Rattle.demands.specs.Agree.{JudgeAgrees, CedarJudgeAgrees, PrefixAgrees, CedarPrefixAgrees}
+
+-- the case that a verdict's numbers tell
+caseOf : Verdict ℕ → Judged
+caseOf (passed k) = Records k
+caseOf (refused r) =
+    if eqb (r .n) 1 then Size
+    else if eqb (r .n) 2 then WordCount
+    else if eqb (r .n) 3 then Checksum (r .c)
+    else if eqb (r .n) 4 then Record (Short (r .a))
+    else if eqb (r .n) 5 then Record (Kind (r .a))
+    else if eqb (r .n) 6 then Record (Total (r .a))
+    else if eqb (r .n) 7 then Record (NotZero (r .a) (r .b))
+    else if eqb (r .n) 8 then Record (Card (r .a) (r .b))
+    else Record (Counts (r .a) (r .b))
+
+back : (j : Judged) → caseOf (judgedOf j) ≡ j
+unfolding caseOf
+back (Records k) = refl
+back Size = refl
+back WordCount = refl
+back (Checksum bits) = refl
+back (Record (Short k)) = refl
+back (Record (Kind k)) = refl
+back (Record (Total k)) = refl
+back (Record (NotZero k w)) = refl
+back (Record (Card k w)) = refl
+back (Record (Counts k w)) = refl
+
+pub judge-agrees : JudgeAgrees
+judge-agrees block r s p q = sym (back r) ∙ ap caseOf (p ∙ sym q) ∙ back s
+
+-- where the promise names the outcome itself
+same : {A : Type 0} {x r s : A} → r ≡ x → s ≡ x → r ≡ s
+same p q = p ∙ sym q
+
+pub cedar-judge-agrees : CedarJudgeAgrees
+cedar-judge-agrees block r s p q = same p q
+
+pub prefix-agrees : PrefixAgrees
+prefix-agrees instrument r s p q = same p q
+
+pub cedar-prefix-agrees : CedarPrefixAgrees
+cedar-prefix-agrees instrument r s p q = same p q

@@ -1,0 +1,20 @@
+-- Demand 1: each call ends with an accepted answer or one numbered refusal. Its numbers are the paper's, and can be taken apart again.
+use mathlib.Core.Path.{_≡_}
+use mathlib.Core.List.{List}
+use Prim.Native.Nat.{ℕ, _≤_}
+use Rattle.units.specs.declared.Answer.{Answer}
+use Rattle.units.specs.Answers.{packedOf, takenApart}
+use Rattle.words.specs.Words.{Below}
+use Rattle.cedar.specs.Calls.{judgeAnswer, prefixAnswer}
+
+-- the four numbers that a C caller takes out of the one it was given
+abbrev pub Kept : Answer → Type 0
+Kept r = takenApart (packedOf r) ≡ r
+
+-- "Order for a block: 1, 2, 3, then each record: 4, 5, 6, 7, 8, 9"
+abbrev pub JudgeAnswers : Type 0
+JudgeAnswers = (block : List ℕ) → Below 256 block → (judgeAnswer block .n ≤ 9) × Kept (judgeAnswer block)
+
+-- "The prefix call always succeeds"
+abbrev pub PrefixAnswers : Type 0
+PrefixAnswers = (instrument : ℕ) → (prefixAnswer instrument .n ≡ 0) × Kept (prefixAnswer instrument)
