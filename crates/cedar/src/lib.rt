@@ -8,7 +8,8 @@ ghost use Rattle.cedar.specs.Calls.{judgeAnswer, prefixAnswer};
 pub extern "C" fn cedar_judge(block: &[u8]) -> u64
     ensures { λ r. ⌜ r ≡ packedOf (judgeAnswer (now (block .entry))) ⌝ }
 {
-    units::pack(block::numbers(block::judge(block)))
+    let judged = block::judge(block);
+    units::pack(block::numbers(judged))
 }
 
 // uint64_t cedar_prefix(uint16_t instrument);
@@ -16,5 +17,6 @@ pub extern "C" fn cedar_judge(block: &[u8]) -> u64
 pub extern "C" fn cedar_prefix(instrument: u16) -> u64
     ensures { λ r. ⌜ r ≡ packedOf (prefixAnswer instrument) ⌝ }
 {
-    units::pack(prefix::numbers(prefix::prefix_of(instrument)))
+    let letters = prefix::prefix_of(instrument);
+    units::pack(prefix::numbers(letters))
 }

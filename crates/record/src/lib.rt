@@ -103,7 +103,8 @@ pub fn words_needed(lprol: u16, jpar: u16, mpar: u16, nrow: u16) -> Words
     ensures { λ r. ⌜ r .0 ≡ wordsNeeded lprol jpar mpar nrow ⌝ }
 {
     let rows = (mpar as usize) * (nrow as usize + 1);
-    Words(lprol as usize + 2 * (jpar as usize) + rows)
+    let sum = lprol as usize + 2 * (jpar as usize) + rows;
+    Words(sum)
 }
 
 // A count is under its least value: words are two's complement.

@@ -1,3 +1,4 @@
+use native.Mathlib.Omega.{arith}
 use Rattle.record.specs.Judging.{underLeast, judgeCounts}
 use borrow.Author.Tests.{eq-eqb, ne-eqb}
 use mathlib.Core.Bool.{false}
@@ -52,11 +53,11 @@ words-needed-requires c κs = search needs
 
 returns-5 : tie.Need-returns-5
 unfolding judgeCounts
-returns-5 c = simp (past (c .before .before .before .before .before .before .before .before), past2 (c .before .before .before .before .before .before), past3 (c .before .before .before .before), past4 (c .before .before), ← c .before .words-needed .ensures, ne-eqb _ _ (c .if5 .taken))
+returns-5 c = simp (past (c .before .before .before .before .before .before .before .before), past2 (c .before .before .before .before .before .before), past3 (c .before .before .before .before), past4 (c .before .before), ← c .before .words-needed .ensures, ne-eqb (c .before .before .before .before .before .before .before .before .before .before .args .total .0) (c .before .words-needed .result .0) (λ e. omega arith))
 
 returns-6 : tie.Need-returns-6
 unfolding judgeCounts
-returns-6 c = simp (past (c .before .before .before .before .before .before .before .before), past2 (c .before .before .before .before .before .before), past3 (c .before .before .before .before), past4 (c .before .before), ← c .before .words-needed .ensures, eq-eqb _ _ (c .if5 .left))
+returns-6 c = simp (past (c .before .before .before .before .before .before .before .before), past2 (c .before .before .before .before .before .before), past3 (c .before .before .before .before), past4 (c .before .before), ← c .before .words-needed .ensures, eq-eqb (c .before .before .before .before .before .before .before .before .before .before .args .total .0) (c .before .words-needed .result .0) (omega arith))
 
 pub judge-counts-spec : {M : Type 1} → statement M
 judge-counts-spec =

@@ -15,17 +15,17 @@ add-rows c = search needs
 mul-rows : tie.Need-mul-rows
 mul-rows c = omega (arith, product c)
 
-mul-t7 : tie.Need-mul-t7
-mul-t7 c = search needs
+mul-sum : tie.Need-mul-sum
+mul-sum c = search needs
 
-add-t9 : tie.Need-add-t9
-add-t9 c = search needs
+add-sum : tie.Need-add-sum
+add-sum c = search needs
 
-add-t10 : tie.Need-add-t10
-add-t10 c = omega (arith, product c)
+add-sum-2 : tie.Need-add-sum-2
+add-sum-2 c = omega (arith, product c)
 
 returns : tie.Need-returns
 returns c = search needs
 
 pub words-needed-spec : {M : Type 1} → statement M
-words-needed-spec = tie.close (tie.spec add-rows mul-rows mul-t7 add-t9 add-t10 returns)
+words-needed-spec = tie.close (tie.spec add-rows mul-rows mul-sum add-sum add-sum-2 returns)

@@ -1,0 +1,268 @@
+/*
+ * What the library's calls cost beside the reference's.
+ *
+ *   bench                       times, and the stack that each call takes
+ *   bench names                 the names of the tasks
+ *   bench WHOSE TASK CALLS      only makes so many calls, to have their instructions counted from outside
+ */
+#define _DEFAULT_SOURCE
+#include <stdio.h>
+#include <stdlib.h>
+#include <string.h>
+#include <time.h>
+#include <ucontext.h>
+
+#include "blocks.h"
+#include "cedar.h"
+#include "reference.h"
+#include "words.h"
+
+/* The calls through pointers, so that the compiler can take none of them out of a loop. */
+struct calls {
+    const char *whose;
+    uint64_t (*judge)(const uint8_t *, size_t);
+    uint64_t (*prefix)(uint16_t);
+};
+
+static uint64_t judge_nothing(const uint8_t *block, size_t length)
+{
+    (void)block;
+    return length;
+}
+
+static uint64_t prefix_nothing(uint16_t instrument)
+{
+    return instrument;
+}
+
+enum { LIBRARY, REFERENCE, NOTHING, SETS };
+
+/* The last ones cost what it costs to make a call. */
+static const struct calls sets[SETS] = {
+    {"library", cedar_judge, cedar_prefix},
+    {"reference", reference_judge, reference_prefix},
+    {"nothing", judge_nothing, prefix_nothing},
+};
+
+static struct block block;
+
+static void build_data(void)
+{
+    block_of_most_data(&block);
+}
+
+static void build_catalogue(void)
+{
+    block_of_most_cards(&block);
+}
+
+/* As many records as a block can have. */
+static void build_records(void)
+{
+    struct counts least = {PROLOGUE_LEAST, 0, 0, 0};
+
+    block_begin(&block);
+    while (block.words + PROLOGUE_LEAST < BLOCK_MOST)
+        block_add_data(&block, least);
+    block_close(&block);
+}
+
+/* Refusal 3. */
+static void build_bad_checksum(void)
+{
+    block_of_most_data(&block);
+    put_word(block.bytes, block.words, word_at(block.bytes, block.words) ^ 1);
+}
+
+/* Refusal 8, at the last word before the checksum. */
+static void build_bad_card(void)
+{
+    block_of_most_cards(&block);
+    put_word(block.bytes, block.words - 1, CARD_MOST + 1);
+    block_seal(&block);
+}
+
+static void build_none(void)
+{
+}
+
+static uint64_t judge(const struct calls *calls)
+{
+    return calls->judge(block.bytes, block.length);
+}
+
+static uint64_t prefix_listed(const struct calls *calls)
+{
+    return calls->prefix(6320);
+}
+
+static uint64_t prefix_unlisted(const struct calls *calls)
+{
+    return calls->prefix(7240);
+}
+
+static const struct task {
+    const char *name;
+    void (*build)(void);
+    uint64_t (*call)(const struct calls *);
+} tasks[] = {
+    {"judge-data", build_data, judge},
+    {"judge-catalogue", build_catalogue, judge},
+    {"judge-records", build_records, judge},
+    {"judge-bad-checksum", build_bad_checksum, judge},
+    {"judge-bad-card", build_bad_card, judge},
+    {"prefix-listed", build_none, prefix_listed},
+    {"prefix-unlisted", build_none, prefix_unlisted},
+};
+
+enum { TASKS = sizeof tasks / sizeof tasks[0] };
+
+static volatile uint64_t sink;
+
+static void make_calls(const struct task *task, const struct calls *calls, unsigned long count)
+{
+    while (count-- > 0)
+        sink = task->call(calls);
+}
+
+/* Nanoseconds for so many calls. */
+static double time_calls(const struct task *task, const struct calls *calls, unsigned long count)
+{
+    struct timespec from, to;
+
+    clock_gettime(CLOCK_MONOTONIC, &from);
+    make_calls(task, calls, count);
+    clock_gettime(CLOCK_MONOTONIC, &to);
+    return 1e9 * (double)(to.tv_sec - from.tv_sec) + (double)(to.tv_nsec - from.tv_nsec);
+}
+
+/* Enough calls for the clock to be fine enough. */
+static unsigned long calls_to_time(const struct task *task)
+{
+    unsigned long count = 1;
+
+    while (time_calls(task, &sets[REFERENCE], count) < 5e6)
+        count *= 2;
+    return count;
+}
+
+static int by_size(const void *one, const void *other)
+{
+    double difference = *(const double *)one - *(const double *)other;
+
+    return (difference > 0) - (difference < 0);
+}
+
+enum { ROUNDS = 21 };
+
+static double median(double *numbers)
+{
+    qsort(numbers, ROUNDS, sizeof *numbers, by_size);
+    return numbers[ROUNDS / 2];
+}
+
+/* In turns, so that a slow moment of the machine meets both. */
+static void print_times(const struct task *task)
+{
+    double library[ROUNDS], reference[ROUNDS], ratio[ROUNDS];
+    unsigned long count = calls_to_time(task);
+
+    for (int round = 0; round < ROUNDS; round++) {
+        library[round] = time_calls(task, &sets[LIBRARY], count) / (double)count;
+        reference[round] = time_calls(task, &sets[REFERENCE], count) / (double)count;
+        ratio[round] = library[round] / reference[round];
+    }
+    printf("%-20s %12.1f %12.1f %8.2f\n", task->name, median(library), median(reference), median(ratio));
+}
+
+/* The stack is painted in units of a push. */
+enum { STACK = 1 << 17 };
+
+static const uint64_t paint = 0xa5a5a5a5a5a5a5a5u;
+
+static ucontext_t outside, inside;
+static const struct task *measured_task;
+static const struct calls *measured_calls;
+
+static void make_measured_call(void)
+{
+    make_calls(measured_task, measured_calls, 1);
+}
+
+static size_t unpainted(const uint64_t *stack)
+{
+    size_t kept = 0;
+
+    while (kept < STACK && stack[kept] == paint)
+        kept++;
+    return (STACK - kept) * sizeof *stack;
+}
+
+/* Bytes from the start of a painted stack down to the deepest that one call changed. */
+static size_t depth_of(const struct task *task, const struct calls *calls)
+{
+    static uint64_t stack[STACK];
+
+    for (size_t i = 0; i < STACK; i++)
+        stack[i] = paint;
+    measured_task = task;
+    measured_calls = calls;
+    getcontext(&inside);
+    inside.uc_stack.ss_sp = stack;
+    inside.uc_stack.ss_size = sizeof stack;
+    inside.uc_link = &outside;
+    makecontext(&inside, make_measured_call, 0);
+    swapcontext(&outside, &inside);
+    return unpainted(stack);
+}
+
+static void print_stack(const struct task *task)
+{
+    size_t nothing = depth_of(task, &sets[NOTHING]);
+
+    printf("%-20s %12zu %12zu\n", task->name, depth_of(task, &sets[LIBRARY]) - nothing,
+           depth_of(task, &sets[REFERENCE]) - nothing);
+}
+
+static void print_names(const struct task *task)
+{
+    printf("%s\n", task->name);
+}
+
+static void print_all(void (*print)(const struct task *))
+{
+    for (size_t i = 0; i < TASKS; i++) {
+        tasks[i].build();
+        print(&tasks[i]);
+    }
+}
+
+static int make_named_calls(const char *whose, const char *name, unsigned long count)
+{
+    for (size_t i = 0; i < SETS * TASKS; i++) {
+        const struct calls *calls = &sets[i % SETS];
+        const struct task *task = &tasks[i / SETS];
+
+        if (strcmp(calls->whose, whose) == 0 && strcmp(task->name, name) == 0) {
+            task->build();
+            make_calls(task, calls, count);
+            return 0;
+        }
+    }
+    return 2;
+}
+
+int main(int argc, char **argv)
+{
+    if (argc == 4)
+        return make_named_calls(argv[1], argv[2], strtoul(argv[3], NULL, 10));
+    if (argc == 2 && strcmp(argv[1], "names") == 0) {
+        print_all(print_names);
+        return 0;
+    }
+    printf("%-20s %12s %12s %8s\n", "time, ns a call", "library", "reference", "ratio");
+    print_all(print_times);
+    printf("\n%-20s %12s %12s\n", "stack, bytes", "library", "reference");
+    print_all(print_stack);
+    return 0;
+}

@@ -1,0 +1,183 @@
+#include "generate.h"
+
+#include "chance.h"
+#include "damage.h"
+#include "words.h"
+
+static void fill_words(struct chance *chance, uint8_t *record, size_t first, size_t last)
+{
+    for (size_t number = first; number <= last; number++)
+        put_word(record, number, (uint16_t)draw(chance));
+}
+
+static void fill_cards(struct chance *chance, uint8_t *record, size_t words)
+{
+    for (size_t byte = 2 * LINE_WORDS; byte < 2 * words; byte++)
+        record[byte] = (uint8_t)between(chance, CARD_LEAST, CARD_MOST);
+}
+
+/* Counts of a Data record of so many words; LPROL takes what the others leave. */
+static struct counts counts_of(struct chance *chance, size_t words)
+{
+    struct counts counts = {words, 0, 0, 0};
+    size_t free = words - PROLOGUE_LEAST;
+
+    if (one_in(chance, 2))
+        counts.jpar = between(chance, 0, free / 2);
+    free -= 2 * counts.jpar;
+    if (free == 0 || one_in(chance, 4)) {
+        /* With MPAR 0 any NROW takes no words. */
+        counts.nrow = between(chance, 0, one_in(chance, 2) ? 0x7fff : 2);
+    } else {
+        counts.mpar = one_in(chance, 4) ? 1 : between(chance, 1, free);
+        counts.nrow = (one_in(chance, 2) ? free / counts.mpar : between(chance, 1, free / counts.mpar)) - 1;
+    }
+    counts.lprol -= 2 * counts.jpar + counts.mpar * (counts.nrow + 1);
+    return counts;
+}
+
+static void add_data(struct chance *chance, struct block *block, size_t words)
+{
+    uint8_t *record = block_add_data(block, counts_of(chance, words));
+
+    fill_words(chance, record, 3, LPROL - 1);
+    fill_words(chance, record, NROW + 1, words);
+}
+
+static void add_cards(struct chance *chance, struct block *block, size_t words)
+{
+    uint16_t kind = one_in(chance, 2) ? CATALOGUE : HEADER;
+    uint8_t *record = block_add_cards(block, kind, words / LINE_WORDS - 1);
+
+    fill_words(chance, record, 3, (kind == CATALOGUE ? CATALOGUE_ZERO : HEADER_ZERO) - 1);
+    fill_cards(chance, record, words);
+}
+
+/* The words that a record of at most `most` takes of `left`, so that the rest is none or a record's. */
+static size_t share_of(struct chance *chance, size_t left, size_t most)
+{
+    size_t words = between(chance, PROLOGUE_LEAST, most < left ? most : left);
+
+    if (words >= LINE_WORDS && one_in(chance, 2))
+        words -= words % LINE_WORDS;
+    return left - words < PROLOGUE_LEAST ? left : words;
+}
+
+/* A closed block without a fault; more than 8,000 words are its only one. */
+static void build(struct chance *chance, struct block *block, size_t words)
+{
+    static const size_t mosts[] = {PROLOGUE_LEAST, LINE_WORDS, 3 * LINE_WORDS, BLOCK_MOST};
+    size_t most = PICK(chance, mosts);
+
+    block_begin(block);
+    while (block->words + 1 < words) {
+        size_t share = share_of(chance, words - 1 - block->words, most);
+
+        if (share % LINE_WORDS == 0 && !one_in(chance, 8))
+            add_cards(chance, block, share);
+        else
+            add_data(chance, block, share);
+    }
+    block_close(block);
+}
+
+/* Mostly small, so that a fault has few words to hide among. */
+static void build_any(struct chance *chance, struct block *block)
+{
+    static const size_t mosts[] = {BLOCK_LEAST, 60, 60, 120, 120, 120, 600, 600, BLOCK_MOST};
+    size_t most = PICK(chance, mosts);
+
+    build(chance, block, one_in(chance, 10) ? BLOCK_MOST : between(chance, BLOCK_LEAST, most));
+}
+
+/* A Catalogue or Header as large as chance wants it, up to 198 cards. */
+static void build_cards(struct chance *chance, struct block *block)
+{
+    block_begin(block);
+    add_cards(chance, block, LINE_WORDS * between(chance, 1, 199));
+    block_close(block);
+}
+
+/* A block of about the least or the most words. */
+static void build_limit(struct chance *chance, struct block *block)
+{
+    if (one_in(chance, 2)) {
+        build(chance, block, between(chance, BLOCK_MOST - 2, BLOCK_MOST + 2));
+    } else {
+        build(chance, block, BLOCK_LEAST);
+        block_resize(block, between(chance, BLOCK_LEAST - 3, BLOCK_LEAST + 1));
+        block_seal(block);
+    }
+}
+
+static void damage_once(struct chance *chance, struct block *block)
+{
+    build_any(chance, block);
+    damage_records(chance, block);
+    block_seal(block);
+}
+
+static void damage_twice(struct chance *chance, struct block *block)
+{
+    build_any(chance, block);
+    damage_records(chance, block);
+    damage_records(chance, block);
+    block_seal(block);
+}
+
+static void damage_only_cards(struct chance *chance, struct block *block)
+{
+    build_cards(chance, block);
+    damage_cards(chance, block);
+    block_seal(block);
+}
+
+static void damage_only_frame(struct chance *chance, struct block *block)
+{
+    build_any(chance, block);
+    damage_frame(chance, block);
+}
+
+static void damage_both(struct chance *chance, struct block *block)
+{
+    damage_once(chance, block);
+    damage_frame(chance, block);
+}
+
+/* Words that look like parts of records, in a right frame. */
+static void build_noise(struct chance *chance, struct block *block)
+{
+    static const uint16_t kinds[] = {DATA, CATALOGUE, HEADER};
+
+    block_begin(block);
+    block_resize(block, between(chance, BLOCK_LEAST, 4 * LINE_WORDS));
+    for (size_t number = 2; number < block->words; number++)
+        put_word(block->bytes, number, telling_word(chance));
+    put_word(block->bytes, 3, PICK(chance, kinds));
+    block_seal(block);
+}
+
+/* Bytes without any sense; their length is even or odd, and may be 0. */
+static void build_bytes(struct chance *chance, struct block *block)
+{
+    block_begin(block);
+    block_resize(block, between(chance, 1, one_in(chance, 8) ? BLOCK_MOST + 2 : 60));
+    fill_words(chance, block->bytes, 1, block->words);
+    block->length = 2 * block->words - between(chance, 0, 2);
+    if (one_in(chance, 2))
+        put_word(block->bytes, 1, (uint16_t)(block->length / 2));
+}
+
+void generate_block(uint64_t seed, uint64_t number, struct block *block)
+{
+    static void (*const recipes[])(struct chance *, struct block *) = {
+        build_any,    build_cards,       build_limit,       damage_once, damage_once, damage_twice,
+        damage_twice, damage_only_cards, damage_only_frame, damage_both, build_noise, build_bytes,
+    };
+    struct chance chance = {seed};
+
+    /* Mixed, so that neighbouring seeds and numbers share nothing. */
+    chance.state = draw(&chance) + number;
+    chance.state = draw(&chance);
+    recipes[number % (sizeof recipes / sizeof recipes[0])](&chance, block);
+}

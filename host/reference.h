@@ -1,0 +1,16 @@
+/* The calls of cedar.h once more, in plain C from document 01, to compare the library with. */
+#ifndef REFERENCE_H
+#define REFERENCE_H
+
+#include <stddef.h>
+#include <stdint.h>
+
+static inline uint64_t pack(uint64_t n, uint64_t a, uint64_t b, uint64_t c)
+{
+    return n << 56 | a << 32 | b << 16 | c;
+}
+
+uint64_t reference_judge(const uint8_t *block, size_t length);
+uint64_t reference_prefix(uint16_t instrument);
+
+#endif

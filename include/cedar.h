@@ -1,0 +1,88 @@
+/*
+ * cedar.h: the C calls of Nalungkep, a proved converter for CEDAR radar data.
+ *
+ * The library judges binary blocks of the CEDAR database format and finds instruments' prefixes.
+ * It is proved, for every input, to answer as written here.
+ * Link x86-64 programs with libcedar.a; it needs no other library.
+ *
+ * Every call
+ *   keeps no state and needs no set-up;
+ *   is safe on any bytes;
+ *   reads no byte outside of the buffers lent to it;
+ *   leaves every buffer unchanged when it refuses.
+ *
+ * The caller answers for two things.
+ *   A buffer has as many readable bytes as its length says; for length 0 any pointer but NULL will do.
+ *   Buffers lent to one call do not overlap.
+ *
+ * A block
+ *   is 18 to 8,000 words of 16 bits, each with its high byte first, in two's complement.
+ *   Its word 1 is the count of all its words.
+ *   Its last word, the checksum, is the exclusive or of all the other words.
+ *   Between those two stand one or more records, end to end, numbered from 1.
+ *
+ * A record has its words numbered from 1.
+ *   Word 1 is LTOT, the count of the record's words.
+ *   Word 2 is the kind: 2001 Catalogue, 3002 Header, 1002 Data.
+ *   Word 3 is the instrument, word 4 a code, words 5 to 12 are times: any values.
+ *   Catalogue: words 13 to 40 are zero, and from word 41 on stand cards.
+ *   Header: as Catalogue, but words 13 to 15 may have any values.
+ *   A card is 80 bytes, each from 32 to 126.
+ *   Data: words 13 to 16 are the counts LPROL (at least 16), JPAR, MPAR and NROW (at least 0).
+ *   Data: LTOT is LPROL + 2 JPAR + MPAR (NROW + 1); words 17 on may have any values.
+ *
+ * An answer
+ *   is four numbers n, a, b, c in one: 2^56 n + 2^32 a + 2^16 b + c.
+ *   n is 0 for success; any other n is a refusal.
+ *   A number that is not named for an answer is 0.
+ */
+#ifndef CEDAR_H
+#define CEDAR_H
+
+#include <stddef.h>
+#include <stdint.h>
+
+#ifdef __cplusplus
+extern "C" {
+#endif
+
+/* The four numbers of an answer. */
+static inline uint32_t cedar_n(uint64_t answer) { return (uint32_t)(answer >> 56); }
+static inline uint32_t cedar_a(uint64_t answer) { return (uint32_t)(answer >> 32) & 0xffffff; }
+static inline uint32_t cedar_b(uint64_t answer) { return (uint32_t)(answer >> 16) & 0xffff; }
+static inline uint32_t cedar_c(uint64_t answer) { return (uint32_t)answer & 0xffff; }
+
+/*
+ * Judges the `length` bytes at `block`, which must be exactly one block.
+ *
+ *   n  given when                                          a        b               c
+ *   0  the block is accepted                               records
+ *   1  length is odd, under 36 or over 16,000
+ *   2  word 1 is not the count of words
+ *   3  the checksum is wrong                                                        wrong bits
+ *   4  under 16 words are left for a record                record   1
+ *   5  the kind is unknown                                 record   2
+ *   6  LTOT is under 40 or no multiple of 40               record   1
+ *      (Data: under 16), or runs into the checksum
+ *   7  a word that must be zero is not                     record   its word
+ *   8  a card has a byte that is not 32 to 126             record   the byte's word
+ *   9  Data: a count is under its least value              record   13, 14, 15, 16
+ *      Data: LTOT is not the sum that the counts give      record   1
+ *
+ * Tried in this order: 1, 2, 3, then 4 to 9 for each record in turn; the first that holds is the answer.
+ * Where several places are wrong in the same way, b is the first of them.
+ */
+uint64_t cedar_judge(const uint8_t *block, size_t length);
+
+/*
+ * Finds the data volume prefix of an instrument, given as word 3 of its records, 0 to 65,535.
+ * Always succeeds: n is 0, and a, b, c are the byte values of the prefix's three letters.
+ * An instrument without a prefix has "---".
+ */
+uint64_t cedar_prefix(uint16_t instrument);
+
+#ifdef __cplusplus
+}
+#endif
+
+#endif
