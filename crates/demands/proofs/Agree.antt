@@ -8,7 +8,7 @@ use Rattle.record.specs.declared.Refusal.the-variants.{Short, Kind, Total, NotZ
 use Rattle.block.specs.declared.Judged.{Judged}
 use Rattle.block.specs.declared.Judged.the-variants.{Records, Size, WordCount, Checksum, Record}
 use Rattle.block.specs.Cases.{judgedOf}
-use Rattle.demands.specs.Agree.{JudgeAgrees, CedarJudgeAgrees, PrefixAgrees, CedarPrefixAgrees}
+use Rattle.demands.specs.Agree.{JudgeAgrees, CedarJudgeAgrees, StepAgrees, FindAgrees, PrefixAgrees, CedarPrefixAgrees}
 
 -- the case that a verdict's numbers tell
 caseOf : Verdict ℕ → Judged
@@ -46,6 +46,12 @@ same p q = p ∙ sym q
 
 pub cedar-judge-agrees : CedarJudgeAgrees
 cedar-judge-agrees block r s p q = same p q
+
+pub step-agrees : StepAgrees
+step-agrees block at r s p q = same p q
+
+pub find-agrees : FindAgrees
+find-agrees block number r s p q = same p q
 
 pub prefix-agrees : PrefixAgrees
 prefix-agrees instrument r s p q = same p q
