@@ -1,6 +1,6 @@
 // A block: records end to end, with length word and checksum; the judge, one step to the next record, and finding one.
 use record::Checked;
-use record::Refusal;
+use record::Fault;
 use units::Answer;
 use units::Bytes;
 use units::Words;
@@ -10,16 +10,21 @@ ghost use lib.ListN.{length};
 ghost use Rattle.units.specs.Answers.{answer};
 ghost use Rattle.words.specs.Words.{wordsOf};
 ghost use Rattle.block.specs.Judging.{wrongSize, walk, judged};
-ghost use Rattle.block.specs.Cases.{judgedOf, answerOf};
+ghost use Rattle.block.specs.Cases.{refusalOf, judgedOf, answerOf};
 ghost use Rattle.block.specs.Steps.{stepOf, findOf};
+
+// Why a block is refused: its frame, or one of its records.
+pub enum Refusal {
+    Size,
+    WordCount,
+    Checksum(u16),
+    Record(Fault),
+}
 
 // What is found of a block: its records, or the first refusal.
 pub enum Judged {
     Records(u16),
-    Size,
-    WordCount,
-    Checksum(u16),
-    Record(Refusal),
+    Refused(Refusal),
 }
 
 // The next record, with so many words of the block before it and so many of its own; or no more.
@@ -53,7 +58,7 @@ fn judge_records(inner: &[u8]) -> Judged
     let mut number: u16 = 1;
     while at < end {
         match record::judge_record(words::part(inner, Words(at), last), number) {
-            Checked::Refused(r) => return Judged::Record(r),
+            Checked::Refused(f) => return Judged::Refused(Refusal::Record(f)),
             Checked::Passed(size) => {
                 let k = size.0;
                 at = at + k;
@@ -61,7 +66,8 @@ fn judge_records(inner: &[u8]) -> Judged
             }
         }
     }
-    Judged::Records(number - 1)
+    let count = number - 1;
+    Judged::Records(count)
 }
 
 // Judges a block: whether it keeps the rules of the format, and how many records it has.
@@ -69,18 +75,20 @@ pub fn judge(block: &[u8]) -> Judged
     ensures { λ r. ⌜ judgedOf r ≡ judged (now (block .entry)) ⌝ }
 {
     if wrong_size(Bytes(block.len())) {
-        return Judged::Size;
+        return Judged::Refused(Refusal::Size);
     }
     let m = words::count(block).0;
     let stated = units::words_said(words::word_at(block, Words(0))).0;
     if stated != m {
-        return Judged::WordCount;
+        return Judged::Refused(Refusal::WordCount);
     }
-    let last = Words(m - 1);
+    let end = m - 1;
+    let last = Words(end);
     let stored = words::word_at(block, last);
     let computed = words::exclusive_or(words::part(block, Words(0), last));
     if stored != computed {
-        return Judged::Checksum(u16::count_ones(stored ^ computed) as u16);
+        let bits = u16::count_ones(stored ^ computed) as u16;
+        return Judged::Refused(Refusal::Checksum(bits));
     }
     judge_records(words::part(block, Words(1), last))
 }
@@ -91,10 +99,19 @@ pub fn numbers(j: Judged) -> Answer
 {
     match j {
         Judged::Records(k) => four(0, k, 0),
-        Judged::Size => four(1, 0, 0),
-        Judged::WordCount => four(2, 0, 0),
-        Judged::Checksum(bits) => four(3, 0, bits),
-        Judged::Record(r) => record::numbers(r),
+        Judged::Refused(r) => refusal_numbers(r),
+    }
+}
+
+// The four numbers of a refusal.
+pub fn refusal_numbers(r: Refusal) -> Answer
+    ensures { λ s. ⌜ (s ≡ refusalOf r) × (s .a < 65536) ⌝ }
+{
+    match r {
+        Refusal::Size => four(1, 0, 0),
+        Refusal::WordCount => four(2, 0, 0),
+        Refusal::Checksum(bits) => four(3, 0, bits),
+        Refusal::Record(f) => record::numbers(f),
     }
 }
 

@@ -71,11 +71,9 @@ fn put_refusal(r: Answer) {
 }
 
 fn list(block: &[u8]) {
-    let j = block::judge(block);
-    if let Judged::Records(_) = j {
-        put_records(block);
-    } else {
-        put_refusal(block::numbers(j));
+    match block::judge(block) {
+        Judged::Records(_) => put_records(block),
+        Judged::Refused(r) => put_refusal(block::refusal_numbers(r)),
     }
 }
 

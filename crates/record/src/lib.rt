@@ -8,7 +8,7 @@ ghost use lib.ListN.{length};
 ghost use Rattle.units.specs.Answers.{answer};
 ghost use Rattle.words.specs.Words.{wordsOf};
 ghost use Rattle.record.specs.Judging.{passing, within, wordWithin, wrongTotal, underLeast, wordsNeeded, judgeCards, judgeCounts, judgeData, judgeRecord};
-ghost use Rattle.record.specs.Cases.{refusalOf, checkedOf};
+ghost use Rattle.record.specs.Cases.{faultOf, checkedOf};
 ghost use Rattle.record.specs.Lines.{linesNeeded, lineCount};
 
 const CATALOGUE: u16 = 2001;
@@ -17,8 +17,8 @@ const HEADER: u16 = 3002;
 
 const DATA: u16 = 1002;
 
-// Why a record refuses its block: the record's number, and the word's where it varies.
-pub enum Refusal {
+// What is wrong with a record: the record's number, and the word's where it varies.
+pub enum Fault {
     Short(u16),
     Kind(u16),
     Total(u16),
@@ -30,7 +30,7 @@ pub enum Refusal {
 // What is found of a record: it is good and so many words long, or its block is refused.
 pub enum Checked {
     Passed(Words),
-    Refused(Refusal),
+    Refused(Fault),
 }
 
 // Both bytes of a word lie from `least` to `most`.
@@ -85,15 +85,15 @@ fn judge_cards(rest: &[u8], number: u16, first: Words) -> Checked
     let total = units::words_said(words::word_at(rest, Words(0)));
     let end = total.0;
     if wrong_total(total, words::count(rest)) {
-        return Checked::Refused(Refusal::Total(number));
+        return Checked::Refused(Fault::Total(number));
     }
     let bad = z + first_outside(words::part(rest, Words(z - 1), Words(40)), 0, 0).0;
     if bad <= 40 {
-        return Checked::Refused(Refusal::NotZero(number, bad as u16));
+        return Checked::Refused(Fault::NotZero(number, bad as u16));
     }
     let odd = 41 + first_outside(words::part(rest, Words(40), total), 32, 126).0;
     if odd <= end {
-        return Checked::Refused(Refusal::Card(number, odd as u16));
+        return Checked::Refused(Fault::Card(number, odd as u16));
     }
     Checked::Passed(total)
 }
@@ -122,21 +122,21 @@ fn judge_counts(number: u16, total: Words, lprol: u16, jpar: u16, mpar: u16, nro
     ensures { λ r. ⌜ checkedOf r ≡ judgeCounts number (total .0) lprol jpar mpar nrow ⌝ }
 {
     if under(16, lprol) {
-        return Checked::Refused(Refusal::Counts(number, 13));
+        return Checked::Refused(Fault::Counts(number, 13));
     }
     if under(0, jpar) {
-        return Checked::Refused(Refusal::Counts(number, 14));
+        return Checked::Refused(Fault::Counts(number, 14));
     }
     if under(0, mpar) {
-        return Checked::Refused(Refusal::Counts(number, 15));
+        return Checked::Refused(Fault::Counts(number, 15));
     }
     if under(0, nrow) {
-        return Checked::Refused(Refusal::Counts(number, 16));
+        return Checked::Refused(Fault::Counts(number, 16));
     }
     let needed = words_needed(lprol, jpar, mpar, nrow).0;
     let stated = total.0;
     if stated != needed {
-        return Checked::Refused(Refusal::Counts(number, 1));
+        return Checked::Refused(Fault::Counts(number, 1));
     }
     Checked::Passed(total)
 }
@@ -149,10 +149,10 @@ fn judge_data(rest: &[u8], number: u16) -> Checked
     let left = words::count(rest).0;
     let total = units::words_said(words::word_at(rest, Words(0))).0;
     if total < 16 {
-        return Checked::Refused(Refusal::Total(number));
+        return Checked::Refused(Fault::Total(number));
     }
     if left < total {
-        return Checked::Refused(Refusal::Total(number));
+        return Checked::Refused(Fault::Total(number));
     }
     let lprol = words::word_at(rest, Words(12));
     let jpar = words::word_at(rest, Words(13));
@@ -167,7 +167,7 @@ pub fn judge_record(rest: &[u8], number: u16) -> Checked
 {
     let left = words::count(rest).0;
     if left < 16 {
-        return Checked::Refused(Refusal::Short(number));
+        return Checked::Refused(Fault::Short(number));
     }
     let kind = words::word_at(rest, Words(1));
     if kind == CATALOGUE {
@@ -179,7 +179,7 @@ pub fn judge_record(rest: &[u8], number: u16) -> Checked
     if kind == DATA {
         return judge_data(rest, number);
     }
-    Checked::Refused(Refusal::Kind(number))
+    Checked::Refused(Fault::Kind(number))
 }
 
 // The lines that a Data record's four counts need.
@@ -208,21 +208,21 @@ pub fn line_count(whole: &[u8]) -> Lines
     lines_needed(lprol, jpar, mpar, nrow)
 }
 
-// The four numbers of a refusal.
-pub fn numbers(r: Refusal) -> Answer
-    ensures { λ s. ⌜ (s ≡ refusalOf r) × (s .a < 65536) ⌝ }
+// The four numbers of a fault.
+pub fn numbers(f: Fault) -> Answer
+    ensures { λ r. ⌜ (r ≡ faultOf f) × (r .a < 65536) ⌝ }
 {
-    match r {
-        Refusal::Short(k) => at_word(4, k, 1),
-        Refusal::Kind(k) => at_word(5, k, 2),
-        Refusal::Total(k) => at_word(6, k, 1),
-        Refusal::NotZero(k, w) => at_word(7, k, w),
-        Refusal::Card(k, w) => at_word(8, k, w),
-        Refusal::Counts(k, w) => at_word(9, k, w),
+    match f {
+        Fault::Short(k) => at_word(4, k, 1),
+        Fault::Kind(k) => at_word(5, k, 2),
+        Fault::Total(k) => at_word(6, k, 1),
+        Fault::NotZero(k, w) => at_word(7, k, w),
+        Fault::Card(k, w) => at_word(8, k, w),
+        Fault::Counts(k, w) => at_word(9, k, w),
     }
 }
 
-// Refusal n at a record and a word of it.
+// Fault n at a record and a word of it.
 fn at_word(n: u8, k: u16, w: u16) -> Answer
     ensures { λ s. ⌜ (s ≡ answer n k w 0) × (s .a < 65536) ⌝ }
 {

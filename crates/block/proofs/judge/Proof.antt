@@ -54,8 +54,8 @@ returns-2 : tie.Need-returns-2
 unfolding judged
 returns-2 c = simp (off (c .before .before .before .before), stated-is (c .before), ← c .before .before .before .count .ensures, ne-eqb _ _ (c .if2 .taken))
 
-sub-t8 : tie.Need-sub-t8
-sub-t8 c = let s = sized (c .before .before .before) in omega arith
+sub-end : tie.Need-sub-end
+sub-end c = let s = sized (c .before .before .before) in omega arith
 
 word-at-requires-2 : tie.Need-word-at-requires-2
 word-at-requires-2 c κs = let s = sized (c .before .before .before) in omega arith
@@ -66,8 +66,8 @@ part-requires c κs = search needs
 exclusive-or-requires : tie.Need-exclusive-or-requires
 exclusive-or-requires c κs = search needs
 
-cast-t17 : tie.Need-cast-t17
-cast-t17 c = let x = c .before .before .before .word-at2 .result in let y = c .before .exclusive-or .result in
+cast-bits : tie.Need-cast-bits
+cast-bits c = let x = c .before .before .before .word-at2 .result in let y = c .before .exclusive-or .result in
     let hx : x < 2 ^ 16 = omega arith in
     let hy : y < 2 ^ 16 = omega arith in
     omega (arith, ones-le 16 (bitXor x y) (xor-lt 16 x y hx hy))
@@ -96,11 +96,11 @@ judge-spec =
     word-at-requires
     words-said-requires
     returns-2
-    sub-t8
+    sub-end
     word-at-requires-2
     part-requires
     exclusive-or-requires
-    cast-t17
+    cast-bits
     returns-3
     part-requires-2
     judge-records-requires

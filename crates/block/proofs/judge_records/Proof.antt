@@ -54,12 +54,12 @@ part-requires c κs = (omega arith, omega arith)
 judge-record-requires : tie.Need-judge-record-requires Inv-loop μ-loop
 judge-record-requires c κs = tt
 
-enum-known-r : tie.Need-enum-known-r Inv-loop μ-loop
-enum-known-r c = search needs
+enum-known-f : tie.Need-enum-known-f Inv-loop μ-loop
+enum-known-f c = search needs
 
 returns : tie.Need-returns Inv-loop μ-loop
 returns c = let ws = wordsOf (now (c .before .before .before .before .before .before .before .before .before .args .inner)) in let l = length-drop (c .before .before .before .before .before .before .loop .at) ws in
-    sym (c .before .before .before .before .before .before .loop .inv .3 ∙ walk-stop (c .before .before .before .before .before .before .loop .number) _ (drop (c .before .before .before .before .before .before .loop .at) ws) (omega arith) (sym (found (c .before .before .before)) ∙ ap checkedOf (c .before .r .given .1)))
+    sym (c .before .before .before .before .before .before .loop .inv .3 ∙ walk-stop (c .before .before .before .before .before .before .loop .number) _ (drop (c .before .before .before .before .before .before .loop .at) ws) (omega arith) (sym (found (c .before .before .before)) ∙ ap checkedOf (c .before .f .given .1)))
 
 enum-known-size : tie.Need-enum-known-size Inv-loop μ-loop
 enum-known-size c = search needs
@@ -80,8 +80,8 @@ loop-again c = let ws = wordsOf (now (c .before .before .before .before .before 
     let on = walk-on (c .before .before .before .before .before .before .loop .number) (c .before .size .given .0 .0 .0) (drop (c .before .before .before .before .before .before .loop .at) ws) (omega arith) (passes (c .before)) in
     (omega arith, omega arith, omega arith, c .before .before .before .before .before .before .loop .inv .3 ∙ on ∙ ap (walk 0 (c .before .before .before .before .before .before .loop .number + 1)) (drop-drop (c .before .size .given .0 .0 .0) (c .before .before .before .before .before .before .loop .at) ws))
 
-sub-t13 : tie.Need-sub-t13 Inv-loop μ-loop
-sub-t13 c = omega arith
+sub-count : tie.Need-sub-count Inv-loop μ-loop
+sub-count c = omega arith
 
 returns-2 : tie.Need-returns-2 Inv-loop μ-loop
 returns-2 c = let ws = wordsOf (now (c .before .before .before .before .args .inner)) in
@@ -98,12 +98,12 @@ judge-records-spec =
     loop-holds
     part-requires
     judge-record-requires
-    enum-known-r
+    enum-known-f
     returns
     enum-known-size
     add-at
     add-number
     loop-less
     loop-again
-    sub-t13
+    sub-count
     returns-2)

@@ -13,8 +13,11 @@ enum-told c = search needs
 put-records-requires : tie.Need-put-records-requires
 put-records-requires c κs = record { count = _; is = sym (c .before .before .judge .ensures) ∙ ap judgedOf (c .enum-told .given .1) }
 
-numbers-requires : tie.Need-numbers-requires
-numbers-requires c κs = search needs
+enum-known-r : tie.Need-enum-known-r
+enum-known-r c = search needs
+
+refusal-numbers-requires : tie.Need-refusal-numbers-requires
+refusal-numbers-requires c κs = search needs
 
 put-refusal-requires : tie.Need-put-refusal-requires
 put-refusal-requires c κs = search needs
@@ -32,7 +35,8 @@ list-spec =
     judge-requires
     enum-told
     put-records-requires
-    numbers-requires
+    enum-known-r
+    refusal-numbers-requires
     put-refusal-requires
     returns
     returns-2)
