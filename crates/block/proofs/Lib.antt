@@ -3,3 +3,4 @@ pub mod Walk
 pub mod Steps
 pub mod Exact
 pub mod Placed
+pub mod Known

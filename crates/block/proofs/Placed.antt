@@ -2,17 +2,18 @@
 use mathlib.Core.Path.{_≡_, refl, sym, ap, _∙_}
 use mathlib.Core.Bool.{Bool, true, false}
 use mathlib.Core.List.{List, [], _∷_, _++_, append-assoc, append-nil}
-use Prim.Native.Nat.{ℕ, zero, suc, _+_, _-_, _≤_, _<_}
+use Prim.Native.Nat.{ℕ, zero, suc, _+_, _-_, _*_, _≤_, _<_}
 use native.Mathlib.Nat.{add-zero}
 use native.Mathlib.Omega.{arith}
 use borrow.Author.Tests.{eqb-false, lt-ltb, le-ltb, ne-eqb}
 use lib.Dec.{eqb}
-use lib.ListN.{length, getD, drop, length-append, length-drop}
-use lib.Seq.{drop-drop, drop-append-seam, getD-drop}
+use lib.ListN.{length, getD, take, drop, length-append, length-drop}
+use lib.Seq.{slice, drop-drop, take-append-seam, drop-append-seam, getD-drop}
 use Rattle.units.specs.Choice.{if_then_else_}
 use Rattle.units.specs.Answers.{passed}
-use Rattle.words.specs.Words.{wordsOf, word, joined, framed, All, Below}
-use Rattle.words.proofs.Laws.{joined-append}
+use Rattle.words.specs.Words.{wordsOf, joined, framed, All, Below}
+use Rattle.words.proofs.Lists.{part-slice}
+use Rattle.words.proofs.Laws.{words-slice, joined-append}
 use Rattle.record.specs.Rules.{RecordOk}
 use Rattle.units.specs.declared.Words.{Words}
 use Rattle.block.specs.declared.Place.the-variants.{Record, NoMore}
@@ -21,7 +22,7 @@ use Rattle.block.specs.Records.{recordsOf}
 use Rattle.block.specs.Rules.{IsBlock}
 use Rattle.block.specs.Steps.{recordAt, stepOf, past, findOf, placed}
 use Rattle.block.proofs.Steps.{step-found}
-use Rattle.block.proofs.Exact.{ok-long, only-good, words-are}
+use Rattle.block.proofs.Exact.{ok-long, frame-ok, only-good, words-are}
 
 -- these records stand from a place on, and one word, the checksum, behind them
 abbrev Stand : List ℕ → ℕ → List (List ℕ) → ℕ → Type 0
@@ -58,6 +59,15 @@ module _ (ws : List ℕ) (at x : ℕ) where
             let m = length-append q (joined rs) in
             simp (s, ne-eqb (suc (length q)) 0 (λ z. omega arith), le-ltb (length ws - 1 - at) (suc (length q)) (omega (arith, f .1)))
 
+    its-words : slice at (at + length r) ws ≡ r
+    unfolding joined
+    its-words =
+        let k : at + length r - at ≡ length r = omega arith in
+        sym (part-slice at (at + length r) ws (omega arith))
+        ∙ ap (λ n. take n (drop at ws)) k
+        ∙ ap (take (length r)) (e ∙ append-assoc r (joined rs) (x ∷ []))
+        ∙ take-append-seam r (joined rs ++ (x ∷ []))
+
     stands-on : Stand ws (at + length r) rs x
     unfolding joined
     stands-on =
@@ -92,6 +102,7 @@ pub record Turn (ws : List ℕ) (at place size : ℕ) (rs : List (List ℕ)) : T
   pub ok : RecordOk first
   pub here : place ≡ at
   pub size-is : size ≡ length first
+  pub words : slice at (at + size) ws ≡ first
   pub long : 16 ≤ size
   pub within : at + size < length ws
   pub left : Left ws (at + size) others
@@ -109,10 +120,25 @@ turn ws at place size (r ∷ rs) l e =
       ok = l .each .0;
       here = f .here;
       size-is = k;
+      words = rw k (its-words ws at (l .checksum) r rs (l .each .0) (l .stand));
       long = omega (arith, ok-long r (l .each .0));
       within = f .within;
       left = rw k (record { each = l .each .1; checksum = l .checksum; stand = stands-on ws at (l .checksum) r rs (l .each .0) (l .stand) });
     }
+
+-- a step that finds no more: none is left
+pub none-left : (ws : List ℕ) (at : ℕ) (rs : List (List ℕ)) → Left ws at rs → stepOf ws at ≡ NoMore → rs ≡ []
+none-left ws at [] l e = refl
+none-left ws at (r ∷ rs) l e =
+    let one = stands-one ws at (l .checksum) r rs (l .each .0) (l .stand) in
+    let z : _≡_ {A = ℕ} 0 1 = cc in
+    absurd (omega arith)
+
+-- the words of the part from the record's place to the next
+pub turn-words : (b part : List ℕ) (at place size : ℕ) (rs : List (List ℕ)) (t : Turn (wordsOf b) at place size rs)
+    → part ≡ slice (place * 2) ((at + size) * 2) b → wordsOf part ≡ t .first
+turn-words b part at place size rs t e =
+    ap wordsOf e ∙ words-slice place (at + size) b ∙ ap (λ p. slice p (at + size) (wordsOf b)) (t .here) ∙ t .words
 
 -- behind the records before it stands the next one
 steps : (ws : List ℕ) (x : ℕ) (before : List (List ℕ)) (at : ℕ) (after : List (List ℕ)) → Stand ws at (before ++ after) x → Stand ws (at + length (joined before)) after x
@@ -132,6 +158,10 @@ module _ (b : List ℕ) (k : ℕ) (bytes : Below 256 b) (accepted : judged b ≡
   stand : (x : ℕ) × Stand (wordsOf b) 1 (recordsOf b) x
   unfolding framed
   stand = (_, ap (drop 1) (words-are b (recordsOf b) good))
+
+  -- "18 to 8,000 words"
+  pub most-words : length (wordsOf b) ≤ 8000
+  most-words = frame-ok b k accepted .size .most
 
   -- at the start all records are left
   pub all-left : Left (wordsOf b) 1 (recordsOf b)

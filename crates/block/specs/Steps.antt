@@ -8,6 +8,7 @@ use Rattle.units.specs.Choice.{if_then_else_}
 use Rattle.block.specs.declared.Place.{Place}
 use Rattle.block.specs.declared.Place.the-variants.{Record, NoMore}
 
+-- a record with so many words before it and so many of its own
 abbrev pub recordAt : ℕ → ℕ → Place
 recordAt at size = Record (record { 0 = at }) (record { 0 = size })
 

@@ -2,7 +2,8 @@
 use Prim.Native.Nat.{ℕ}
 use mathlib.Core.List.{List}
 use Rattle.units.specs.declared.Answer.{Answer}
-use Rattle.units.specs.Answers.{answered}
+use Rattle.units.specs.Answers.{answered, packedOf}
+use Rattle.words.specs.Outcomes.{Written}
 use Rattle.block.specs.Judging.{judged}
 use Rattle.prefix.specs.Table.{prefixOf, answerOf}
 
@@ -13,3 +14,15 @@ judgeAnswer block = answered (judged block)
 -- "find an instrument's prefix"
 abbrev pub prefixAnswer : ℕ → Answer
 prefixAnswer instrument = answerOf (prefixOf instrument)
+
+-- what a conversion returns to C, and the output as it is then
+pub record Returned : Type 0 where
+  pub number : ℕ
+  pub out : List ℕ
+
+abbrev pub returned : ℕ → List ℕ → Returned
+returned number out = record { number = number; out = out }
+
+-- "A C call returns them as one unsigned 64-bit number"
+abbrev pub converted : Written → Returned
+converted w = returned (packedOf (w .answer)) (w .out)

@@ -1,7 +1,8 @@
 // The calls for C, and nothing else: each returns its answer's four numbers as one.
 ghost use mathlib.Core.Path.{_≡_};
 ghost use Rattle.units.specs.Answers.{packedOf};
-ghost use Rattle.cedar.specs.Calls.{judgeAnswer, prefixAnswer};
+ghost use Rattle.cedar.specs.Calls.{judgeAnswer, prefixAnswer, returned, converted};
+ghost use Rattle.lines.specs.Text.{toLines};
 
 // uint64_t cedar_judge(const uint8_t *block, size_t length);
 #[no_mangle]
@@ -19,4 +20,13 @@ pub extern "C" fn cedar_prefix(instrument: u16) -> u64
 {
     let letters = prefix::prefix_of(instrument);
     units::pack(prefix::numbers(letters))
+}
+
+// uint64_t cedar_to_lines(const uint8_t *block, size_t block_length, uint8_t *text, size_t text_length);
+#[no_mangle]
+pub extern "C" fn cedar_to_lines(block: &[u8], text: &mut [u8]) -> u64
+    ensures { λ r. ⌜ returned r (now (text .exit)) ≡ converted (toLines (now (block .entry)) (now (text .entry))) ⌝ }
+{
+    let lined = lines::to_lines(block, text);
+    units::pack(lines::numbers(lined))
 }

@@ -1,13 +1,17 @@
 -- The rows of the paper's examples are computed.
-use mathlib.Core.Path.{_≡_, refl}
-use mathlib.Core.List.{map}
+use mathlib.Core.Path.{refl}
 use lib.Count.{ones, onesIn}
 use Rattle.words.specs.Words.{wordsOf, bytesOf, xorAll}
 use Rattle.record.specs.Judging.{passing, wordWithin, wrongTotal, underLeast, firstNotZero, firstNotCard, judgeCards, judgeCounts, judgeData, judgeRecord}
 use Rattle.block.specs.Judging.{wrongSize, walk, judged}
-use Rattle.cedar.specs.Calls.{judgeAnswer}
-use Rattle.demands.specs.Examples.{judgeRows, blockK, blockLeast}
+use Rattle.prefix.specs.LookUp.{beside}
+use Rattle.prefix.specs.Table.{table}
+use Rattle.demands.specs.Examples.{judgeRows, blockK, blockLeast, JudgeRows, prefixRows, PrefixRows}
 
-pub judge-rows : map (λ r. judgeAnswer (bytesOf (r .block))) judgeRows ≡ map (λ r. r .answered) judgeRows
+pub judge-rows : JudgeRows
 unfolding judgeRows blockK blockLeast judged wrongSize walk judgeRecord judgeCards judgeData judgeCounts wrongTotal underLeast firstNotZero firstNotCard passing wordWithin wordsOf bytesOf xorAll ones onesIn
 judge-rows = refl
+
+pub prefix-rows : PrefixRows
+unfolding prefixRows table beside
+prefix-rows = refl

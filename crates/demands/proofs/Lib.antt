@@ -1,4 +1,6 @@
 pub mod Demand1
 pub mod Demand2
+pub mod Records
+pub mod ExclusiveOr
 pub mod Examples
 pub mod Agree

@@ -1,8 +1,13 @@
--- Document 01, "Examples": the rows marked P, as one table.
+-- Document 01, "Examples": the rows marked P that speak of judging, and prefixes, each sort as one table.
 use Prim.Native.Nat.{ℕ}
-use mathlib.Core.List.{List, [], _∷_}
+use Prim.Native.String.{String}
+use mathlib.Core.Path.{_≡_}
+use mathlib.Core.List.{List, [], _∷_, map}
 use Rattle.units.specs.declared.Answer.{Answer}
 use Rattle.units.specs.Answers.{answer}
+use Rattle.words.specs.Words.{bytesOf}
+use Rattle.prefix.specs.Table.{letters, prefixOf}
+use Rattle.cedar.specs.Calls.{judgeAnswer}
 
 -- "Block K", with NROW and the checksum left open; -32767 is the word 32769
 unfoldable pub blockK : ℕ → ℕ → List ℕ
@@ -28,3 +33,14 @@ judgeRows =
     ∷ record { block = blockLeast 999; answered = answer 0 1 0 0 }
     ∷ record { block = blockK 1 33023; answered = answer 9 1 1 0 }
     ∷ []
+
+-- the rows are what the judge answers
+abbrev pub JudgeRows : Type 0
+JudgeRows = map (λ r. judgeAnswer (bytesOf (r .block))) judgeRows ≡ map (λ r. r .answered) judgeRows
+
+-- "MLH" of the listing's example; "5140 is AQF"; "7240 has no prefix. It and every unlisted code answer "---""
+unfoldable pub prefixRows : List (ℕ × String)
+prefixRows = (30, "MLH") ∷ (5140, "AQF") ∷ (7240, "---") ∷ (0, "---") ∷ (65535, "---") ∷ []
+
+abbrev pub PrefixRows : Type 0
+PrefixRows = map (λ e. prefixOf (e .0)) prefixRows ≡ map (λ e. letters (e .1)) prefixRows

@@ -1,4 +1,3 @@
 pub mod Rising
 pub mod Search
 pub mod Threes
-pub mod Examples

@@ -15,6 +15,7 @@ placeIn [] code = 0
 placeIn (c ∷ codes) code = cond (eqb c code) 0 (suc (placeIn codes code))
 
 module _ {A : Type 0} where
+  -- the codes of a table, and the values beside them
   abbrev pub codesOf : List (ℕ × A) → List ℕ
   codesOf rows = map (λ r. r .0) rows
 

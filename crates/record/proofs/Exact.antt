@@ -112,7 +112,7 @@ module _ (r tail : List ℕ) (total : word r 1 ≡ length r) where
       let cs : length (slice 40 (length r) r) ≡ length r - 40 = length-slice 40 (length r) r (omega arith) in
       record {
         total = List·getD-append r tail 0 0 (omega arith) ∙ total;
-        right = record { least = omega arith; even = omega arith; room = omega arith };
+        right = record { least = omega arith; whole = omega arith; room = omega arith };
         zeros = rw forty (omega (arith, of-all isZero (λ w. w ≡ 0) (λ w e. eq-eqb w 0 e) (slice (z - 1) 40 r) (c .zeros)));
         cards = rw whole (omega (arith, of-all cardWord CardWord word-card (slice 40 (length r) r) (c .printed)));
       }

@@ -17,7 +17,7 @@ use Rattle.record.specs.Judging.{wrongTotal, firstNotZero, firstNotCard,
 -- a total that is right
 pub record TotalRight (total left : ℕ) : Type 0 where
   pub least : 40 ≤ total
-  pub even : total % 40 ≡ 0
+  pub whole : total % 40 ≡ 0
   pub room : total ≤ left
 
 pub total-right : (total left : ℕ) → wrongTotal total left ≡ false → TotalRight total left
@@ -27,13 +27,13 @@ total-right total left e =
     let p = or-off (not (eqb (total % 40) 0)) _ (o .1) in
     record {
       least = ltb-false total 40 (o .0);
-      even = eqb-true (total % 40) 0 (not-false _ (p .0));
+      whole = eqb-true (total % 40) 0 (not-false _ (p .0));
       room = ltb-false left total (p .1);
     }
 
 right-total : (total left : ℕ) → TotalRight total left → wrongTotal total left ≡ false
 unfolding wrongTotal
-right-total total left h = simp (le-ltb total 40 (h .least), eq-eqb (total % 40) 0 (h .even), le-ltb left total (h .room))
+right-total total left h = simp (le-ltb total 40 (h .least), eq-eqb (total % 40) 0 (h .whole), le-ltb left total (h .room))
 
 -- a Catalogue or a Header of k words that passed
 pub record CardsPassed (z : ℕ) (rest : List ℕ) (k : ℕ) : Type 0 where

@@ -39,7 +39,7 @@ pub data KindOk (r : List ℕ) : Type 0 where
   header : word r 2 ≡ 3002 → CardsOk 16 r → KindOk r
   dataRecord : word r 2 ≡ 1002 → DataOk r → KindOk r
 
--- "In every record word 1 is LTOT": it is all of the record, and "No words may follow"
+-- "In every record word 1 is LTOT": it is all of the record, and "No words may follow"; "Words are 16 bits"
 pub record RecordOk (r : List ℕ) : Type 0 where
   pub total : word r 1 ≡ length r
   pub kind : KindOk r

@@ -11,11 +11,11 @@ ghost use Rattle.record.specs.Judging.{passing, within, wordWithin, wron
 ghost use Rattle.record.specs.Cases.{faultOf, checkedOf};
 ghost use Rattle.record.specs.Lines.{linesNeeded, lineCount};
 
-const CATALOGUE: u16 = 2001;
+pub const CATALOGUE: u16 = 2001;
 
-const HEADER: u16 = 3002;
+pub const HEADER: u16 = 3002;
 
-const DATA: u16 = 1002;
+pub const DATA: u16 = 1002;
 
 // What is wrong with a record: the record's number, and the word's where it varies.
 pub enum Fault {

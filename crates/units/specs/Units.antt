@@ -16,3 +16,11 @@ linesOfCards w = w / 40
 -- a part takes "20 fields a line; a part with no fields takes no line"; a field is a word
 abbrev pub linesOfFields : ℕ → ℕ
 linesOfFields w = (w + 19) / 20
+
+-- "A number field is six columns"
+abbrev pub columnsOfFields : ℕ → ℕ
+columnsOfFields w = w * 6
+
+-- "Every line ends with LF"
+abbrev pub endsOfLines : ℕ → ℕ
+endsOfLines l = l

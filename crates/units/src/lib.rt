@@ -1,7 +1,7 @@
 // The three units of the format, kept apart, with the named conversions between them; and the four numbers of an answer.
 ghost use mathlib.Core.Path.{_≡_};
 ghost use Prim.Native.Nat.{_+_, _*_, _/_, _^_, _<_};
-ghost use Rattle.units.specs.Units.{bytesOfWords, wordsOfBytes, linesOfCards, linesOfFields};
+ghost use Rattle.units.specs.Units.{bytesOfWords, wordsOfBytes, linesOfCards, linesOfFields, columnsOfFields, endsOfLines};
 ghost use Rattle.units.specs.Answers.{packedOf};
 
 // A count of 16-bit words, as LTOT of a binary record.
@@ -71,4 +71,19 @@ pub fn pack(r: Answer) -> u64
     let b = r.b;
     let c = r.c;
     (n as u64) * 72057594037927936 + (a as u64) * 4294967296 + (b as u64) * 65536 + (c as u64)
+}
+
+// The columns that so many fields take, six each, as bytes of a line.
+pub fn columns_of_fields(w: Words) -> Bytes
+    requires { ⌜ w .0 < 2 ^ 32 ⌝ }
+    ensures { λ r. ⌜ r .0 ≡ columnsOfFields (w .0) ⌝ }
+{
+    Bytes(w.0 * 6)
+}
+
+// The line ends of so many lines, a byte each.
+pub fn ends_of_lines(l: Lines) -> Bytes
+    ensures { λ r. ⌜ r .0 ≡ endsOfLines (l .0) ⌝ }
+{
+    Bytes(l.0)
 }

@@ -1,3 +1,4 @@
 pub mod Lists
 pub mod Laws
 pub mod Xor
+pub mod Writing

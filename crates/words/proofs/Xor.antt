@@ -1,4 +1,4 @@
--- The exclusive or is associative, as it is commutative and its own inverse; and what that says of the fold over words.
+-- The exclusive or is associative; the library has that it is commutative and its own inverse. And what that says of the fold over words.
 use mathlib.Core.Path.{_≡_, refl, sym, ap, ap₂, _∙_}
 use Prim.Native.Nat.{ℕ, zero, suc, _+_, _*_, _/_, _%_, _^_, _<_}
 use mathlib.Core.List.{List, [], _∷_, _++_}

@@ -3,9 +3,10 @@ use units::Bytes;
 use units::Words;
 ghost use mathlib.Core.Path.{_≡_};
 ghost use mathlib.Core.List.{_∷_, []};
-ghost use Prim.Native.Nat.{_*_, _<_, _≤_};
+ghost use Prim.Native.Nat.{_<_, _≤_};
 ghost use lib.ListN.{length, getD};
 ghost use lib.Seq.{sets, slice};
+ghost use Rattle.units.specs.Units.{bytesOfWords};
 ghost use Rattle.words.specs.Words.{wordsOf, bytesOf, xorAll, swapped};
 
 fn wide(x: u8) -> u16
@@ -19,36 +20,6 @@ pub fn count(part: &[u8]) -> Words
     ensures { λ r. ⌜ r .0 ≡ length (wordsOf (now (part .entry))) ⌝ }
 {
     units::words_of_bytes(Bytes(part.len()))
-}
-
-// The word with `at` words before it.
-pub fn word_at(part: &[u8], at: Words) -> u16
-    requires { ⌜ at .0 < length (wordsOf (now part)) ⌝ }
-    ensures { λ r. ⌜ r ≡ getD (wordsOf (now (part .entry))) (at .0) 0 ⌝ }
-{
-    let high = units::bytes_of_words(at).0;
-    wide(part[high]) * 256 + wide(part[high + 1])
-}
-
-// The words after `from` up to `upto`, as a part of the bytes.
-pub fn part(whole: &[u8], from: Words, upto: Words) -> &[u8]
-    requires { ⌜ (from .0 ≤ upto .0) × (upto .0 ≤ length (wordsOf (now whole))) ⌝ }
-    ensures { λ r. ⌜ now r ≡ slice (from .0 * 2) (upto .0 * 2) (now (whole .entry)) ⌝ }
-{
-    let start = units::bytes_of_words(from).0;
-    let end = units::bytes_of_words(upto).0;
-    &whole[start..end]
-}
-
-// Puts a word after `at` words; all other bytes stay.
-pub fn put_word(part: &mut [u8], at: Words, w: u16)
-    requires { ⌜ at .0 < length (wordsOf (now part)) ⌝ }
-    ensures { λ _. ⌜ now (part .exit) ≡ sets (now (part .entry)) (at .0 * 2) (bytesOf (w ∷ [])) ⌝ }
-{
-    let high = units::bytes_of_words(at).0;
-    let low = high + 1;
-    part[high] = (w / 256) as u8;
-    part[low] = (w % 256) as u8;
 }
 
 // A word with its two bytes swapped.
@@ -66,6 +37,35 @@ fn swapped_at(part: &[u8], at: Words) -> u16
 {
     let high = units::bytes_of_words(at).0;
     wide(part[high]) + wide(part[high + 1]) * 256
+}
+
+// The word with `at` words before it.
+pub fn word_at(part: &[u8], at: Words) -> u16
+    requires { ⌜ at .0 < length (wordsOf (now part)) ⌝ }
+    ensures { λ r. ⌜ r ≡ getD (wordsOf (now (part .entry))) (at .0) 0 ⌝ }
+{
+    swap(swapped_at(part, at))
+}
+
+// The words after `from` up to `upto`, as a part of the bytes.
+pub fn part(whole: &[u8], from: Words, upto: Words) -> &[u8]
+    requires { ⌜ (from .0 ≤ upto .0) × (upto .0 ≤ length (wordsOf (now whole))) ⌝ }
+    ensures { λ r. ⌜ now r ≡ slice (bytesOfWords (from .0)) (bytesOfWords (upto .0)) (now (whole .entry)) ⌝ }
+{
+    let start = units::bytes_of_words(from).0;
+    let end = units::bytes_of_words(upto).0;
+    &whole[start..end]
+}
+
+// Puts a word after `at` words; all other bytes stay.
+pub fn put_word(part: &mut [u8], at: Words, w: u16)
+    requires { ⌜ at .0 < length (wordsOf (now part)) ⌝ }
+    ensures { λ _. ⌜ now (part .exit) ≡ sets (now (part .entry)) (bytesOfWords (at .0)) (bytesOf (w ∷ [])) ⌝ }
+{
+    let high = units::bytes_of_words(at).0;
+    let low = high + 1;
+    part[high] = (w / 256) as u8;
+    part[low] = (w % 256) as u8;
 }
 
 // The exclusive or of all words of a part: the fold takes them as the machine reads them, low byte first, and is swapped once.

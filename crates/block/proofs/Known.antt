@@ -1,0 +1,109 @@
+-- The numbers of a block's answer: listed, and with room in the packing.
+use mathlib.Core.Path.{_≡_, refl}
+use mathlib.Core.Bool.{Bool, true, false, _||_, not}
+use mathlib.Core.List.{List, [], _∷_}
+use Prim.Native.Nat.{ℕ, zero, suc, _+_, _-_, _^_, _≤_, _<_}
+use native.Mathlib.Omega.{arith}
+use borrow.Author.Tests.{leb-true}
+use lib.Bits.{bitXor, xor-lt}
+use lib.Count.{ones, ones-le}
+use lib.Dec.{leb, ltb, eqb}
+use lib.ListN.{length, take}
+use lib.Seq.{length-slice}
+use Rattle.units.specs.Choice.{if_then_else_}
+use Rattle.units.specs.declared.Answer.{Answer}
+use Rattle.units.specs.Answers.{answer, Verdict, passed, refused, answered, onward, Packs}
+use Rattle.words.specs.Words.{wordsOf, word, Below}
+use Rattle.words.proofs.Laws.{words-below, getD-below}
+use Rattle.words.proofs.Lists.{all-take, all-drop}
+use Rattle.words.proofs.Xor.{fold-below}
+use Rattle.record.specs.Judging.{wrongTotal, underLeast, firstNotZero, firstNotCard, judgeCards, judgeCounts, judgeData, judgeRecord, wordsNeeded}
+use Rattle.block.specs.Judging.{wrongSize, inner, computed, walk, judged}
+use Rattle.block.proofs.Size.{size-right}
+
+-- a refusal of the judge: its number is one of the paper's, and the others have room
+pub record Told (r : Answer) : Type 0 where
+  pub listed : r .n ≤ 9
+  pub packs : Packs r
+
+abbrev pub Known : Verdict ℕ → Type 0
+Known (passed a) = a < 2 ^ 16
+Known (refused r) = Told r
+
+-- refusal n at record k, with b and c
+pub told : (n k b c : ℕ) → n ≤ 9 → k < 2 ^ 16 → b < 2 ^ 16 → c < 2 ^ 16 → Told (answer n k b c)
+told n k b c hn hk hb hc =
+    record { listed = hn; packs = record { n-fits = omega arith; a-fits = omega arith; b-fits = hb; c-fits = hc } }
+
+-- one row of the order: its numbers need only be known where its test holds, and the rest where it does not
+row : (t : Bool) (r : Answer) (v : Verdict ℕ) → (t ≡ true → Told r) → (t ≡ false → Known v) → Known (if t then refused r else v)
+row true r v h k = h refl
+row false r v h k = k refl
+
+either : (t : Bool) (u v : Verdict ℕ) → Known u → Known v → Known (if t then u else v)
+either true u v h k = h
+either false u v h k = k
+
+module _ (n : ℕ) (hn : n < 2 ^ 16) (rest : List ℕ) (below : word rest 1 < 2 ^ 16) where
+  cards-known : (z : ℕ) → 1 ≤ z → z ≤ 41 → Known (judgeCards n z rest)
+  unfolding judgeCards
+  cards-known z low high =
+      row (wrongTotal (word rest 1) (length rest)) (answer 6 n 1 0) _ (λ _. told 6 n 1 0 (omega arith) hn (omega arith) (omega arith))
+      (λ right. row (leb (firstNotZero z rest) 40) (answer 7 n (firstNotZero z rest) 0) _
+      (λ t. told 7 n (firstNotZero z rest) 0 (omega arith) hn (omega (arith, leb-true (firstNotZero z rest) 40 t)) (omega arith))
+      (λ _. row (leb (firstNotCard (word rest 1) rest) (word rest 1)) (answer 8 n (firstNotCard (word rest 1) rest) 0) _
+      (λ t. told 8 n (firstNotCard (word rest 1) rest) 0 (omega arith) hn (omega (arith, leb-true (firstNotCard (word rest 1) rest) (word rest 1) t)) (omega arith))
+      (λ _. below)))
+
+  -- a row 9 at this word
+  nine : (w : ℕ) → w ≤ 16 → Told (answer 9 n w 0)
+  nine w h = told 9 n w 0 (omega arith) hn (omega arith) (omega arith)
+
+  data-known : Known (judgeData n rest)
+  unfolding judgeData judgeCounts
+  data-known =
+      row (ltb (word rest 1) 16 || ltb (length rest) (word rest 1)) (answer 6 n 1 0) _ (λ _. told 6 n 1 0 (omega arith) hn (omega arith) (omega arith))
+      (λ _. row (underLeast 16 (word rest 13)) (answer 9 n 13 0) _ (λ _. nine 13 (omega arith))
+      (λ _. row (underLeast 0 (word rest 14)) (answer 9 n 14 0) _ (λ _. nine 14 (omega arith))
+      (λ _. row (underLeast 0 (word rest 15)) (answer 9 n 15 0) _ (λ _. nine 15 (omega arith))
+      (λ _. row (underLeast 0 (word rest 16)) (answer 9 n 16 0) _ (λ _. nine 16 (omega arith))
+      (λ _. row (not (eqb (word rest 1) (wordsNeeded (word rest 13) (word rest 14) (word rest 15) (word rest 16)))) (answer 9 n 1 0) _ (λ _. nine 1 (omega arith))
+      (λ _. below))))))
+
+  record-known : Known (judgeRecord n rest)
+  unfolding judgeRecord
+  record-known =
+      row (ltb (length rest) 16) (answer 4 n 1 0) _ (λ _. told 4 n 1 0 (omega arith) hn (omega arith) (omega arith))
+      (λ _. either (eqb (word rest 2) 2001) (judgeCards n 13 rest) _ (cards-known 13 (omega arith) (omega arith))
+      (either (eqb (word rest 2) 3002) (judgeCards n 16 rest) _ (cards-known 16 (omega arith) (omega arith))
+      (either (eqb (word rest 2) 1002) (judgeData n rest) (refused (answer 5 n 2 0)) data-known (told 5 n 2 0 (omega arith) hn (omega arith) (omega arith)))))
+
+walk-known : (skip n : ℕ) (ws : List ℕ) → n + length ws < 2 ^ 16 → Below 65536 ws → Known (walk skip n ws)
+unfolding walk
+walk-known skip n [] h b = omega arith
+walk-known (suc skip) n (w ∷ ws) h b = walk-known skip n ws (omega arith) (b .1)
+walk-known zero n (w ∷ ws) h b =
+    by (judgeRecord n (w ∷ ws)) (record-known n (omega arith) (w ∷ ws) (b .0)) (λ k. walk-known (k - 1) (n + 1) ws (omega arith) (b .1))
+  where
+    by : (v : Verdict ℕ) → Known v → ((k : ℕ) → Known (walk (k - 1) (n + 1) ws)) → Known (onward v (λ k. walk (k - 1) (n + 1) ws))
+    by (passed k) h on = on k
+    by (refused r) h on = h
+
+pub judged-known : (b : List ℕ) → Below 256 b → Known (judged b)
+unfolding judged
+judged-known b bytes =
+    let ws = wordsOf b in
+    let stored = word ws (length ws) in
+    let below = words-below b bytes in
+    let front = all-take (λ w. w < 65536) (length ws - 1) ws below in
+    row (wrongSize (length b)) (answer 1 0 0 0) _ (λ _. told 1 0 0 0 (omega arith) (omega arith) (omega arith) (omega arith))
+    (λ t. let s = size-right b t in
+    row (not (eqb (word ws 1) (length ws))) (answer 2 0 0 0) _ (λ _. told 2 0 0 0 (omega arith) (omega arith) (omega arith) (omega arith))
+    (λ _. row (not (eqb stored (computed ws))) (answer 3 0 0 (ones (bitXor stored (computed ws)))) _
+    (λ _. told 3 0 0 (ones (bitXor stored (computed ws))) (omega arith) (omega arith) (omega arith)
+    (omega (arith, ones-le 16 (bitXor stored (computed ws)) (xor-lt 16 stored (computed ws) (getD-below 65536 ws (length ws - 1) (omega arith) below) (fold-below (take (length ws - 1) ws) front)))))
+    (λ _. walk-known 0 1 (inner ws) (omega (arith, length-slice 1 (length ws - 1) ws (omega arith))) (all-drop (λ w. w < 65536) 1 (take (length ws - 1) ws) front))))
+
+pub answer-known : (v : Verdict ℕ) → Known v → Told (answered v)
+answer-known (passed a) h = told 0 a 0 0 (omega arith) h (omega arith) (omega arith)
+answer-known (refused r) h = h

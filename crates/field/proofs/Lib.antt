@@ -1,0 +1,8 @@
+pub mod Choice
+pub mod Stores
+pub mod Digits
+pub mod Putting
+pub mod Written
+pub mod Columns
+pub mod Back
+pub mod Examples

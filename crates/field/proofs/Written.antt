@@ -1,0 +1,59 @@
+-- A written field is six columns, each a blank, a minus or a digit, and the last one is a digit.
+use mathlib.Core.Path.{_≡_, ap}
+use mathlib.Core.List.{List, [], _∷_, _++_, append-assoc}
+use Prim.Native.Nat.{ℕ, zero, suc, _-_, _/_, _≤_}
+use native.Mathlib.Omega.{arith}
+use lib.Dec.{ltb}
+use lib.ListN.{length, getD, replicate, length-append, length-replicate}
+use lib.Seq.{getD-at}
+use Rattle.units.specs.Choice.{if_then_else_}
+use Rattle.words.specs.Words.{All}
+use Rattle.field.specs.Writing.{digit, decimal, magnitudeOf, signOf, blanks, fieldOf, FieldByte, blank, minus, figure}
+use Rattle.field.proofs.Choice.{both-ways}
+use Rattle.field.proofs.Digits.{length-decimal}
+
+module _ (w : ℕ) where
+  abbrev number : List ℕ
+  number = signOf w ++ decimal 5 (magnitudeOf w)
+
+  length-number : length number ≤ 6
+  length-number = rw length-append (omega (arith, both-ways (λ (l : List ℕ). length l ≤ 1) (ltb w 32768) [] (45 ∷ []) (omega arith) (omega arith), length-decimal 5 (magnitudeOf w)))
+
+  pub length-fieldOf : length (fieldOf w) ≡ 6
+  unfolding fieldOf
+  length-fieldOf = rw (length-append (blanks (6 - length number)) number, length-replicate) (omega (arith, length-number))
+
+module _ {A : Type 0} (P : A → Type 0) where
+  all-append : (xs ys : List A) → All P xs → All P ys → All P (xs ++ ys)
+  all-append [] ys h k = k
+  all-append (x ∷ xs) ys h k = (h .0, all-append xs ys (h .1) k)
+
+  all-replicate : (n : ℕ) (a : A) → P a → All P (replicate n a)
+  all-replicate zero a h = tt
+  all-replicate (suc n) a h = (h, all-replicate n a h)
+
+bytes-decimal : (most n : ℕ) → All FieldByte (decimal most n)
+unfolding decimal
+bytes-decimal zero n = tt
+bytes-decimal (suc most) n =
+    let front : List ℕ = if ltb n 10 then [] else decimal most (n / 10) in
+    all-append FieldByte front (digit n ∷ []) (both-ways (All FieldByte) (ltb n 10) [] (decimal most (n / 10)) tt (bytes-decimal most (n / 10))) (figure n, tt)
+
+pub bytes-fieldOf : (w : ℕ) → All FieldByte (fieldOf w)
+unfolding fieldOf
+bytes-fieldOf w =
+    all-append FieldByte (blanks (6 - length (number w))) (number w)
+    (all-replicate FieldByte (6 - length (number w)) 32 blank)
+    (all-append FieldByte (signOf w) (decimal 5 (magnitudeOf w))
+    (both-ways (All FieldByte) (ltb w 32768) [] (45 ∷ []) tt (minus, tt))
+    (bytes-decimal 5 (magnitudeOf w)))
+
+last-of : (f before : List ℕ) (b : ℕ) → f ≡ before ++ b ∷ [] → length f ≡ 6 → getD f 5 32 ≡ b
+last-of f before b e h = rw e (getD-at before b [] 32 5 (omega (arith, length-append before (b ∷ []), ap length e)))
+
+pub last-fieldOf : (w : ℕ) → getD (fieldOf w) 5 32 ≡ digit (magnitudeOf w)
+unfolding fieldOf decimal
+last-fieldOf w =
+    let n : ℕ = magnitudeOf w in
+    let front : List ℕ = if ltb n 10 then [] else decimal 4 (n / 10) in
+    last-of (fieldOf w) (blanks (6 - length (number w)) ++ signOf w ++ front) (digit n) (simp append-assoc) (length-fieldOf w)

@@ -1,0 +1,55 @@
+use mathlib.Core.Path.{_≡_, refl}
+use mathlib.Core.List.{_∷_, []}
+use Prim.Native.Nat.{_+_, _/_, _%_}
+use native.Mathlib.Omega.{arith}
+use lib.ListN.{length-set}
+use denote.Ref.{now}
+use borrow.Author.Needs.{needs}
+use Rattle.field.specs.Writing.{digit}
+use Rattle.field.proofs.Digits.{tens-of-last}
+use Rattle.field.proofs.Stores.{set-before}
+use Rattle.field.proofs.put_two.Statement.{statement}
+use Rattle.field.proofs.put_two.Tie as tie
+
+cast-out : tie.Need-cast-out
+cast-out c = search needs
+
+add-out : tie.Need-add-out
+add-out c = search needs
+
+add-out-2 : tie.Need-add-out-2
+add-out-2 c = search needs
+
+slice-write-out : tie.Need-slice-write-out
+slice-write-out c = search needs
+
+cast-out-2 : tie.Need-cast-out-2
+cast-out-2 c = search needs
+
+add-out-3 : tie.Need-add-out-3
+add-out-3 c = search needs
+
+slice-write-out-2 : tie.Need-slice-write-out-2
+slice-write-out-2 c = simp length-set (omega arith)
+
+same-length : tie.Need-same-length
+same-length c = search needs
+
+returns : tie.Need-returns
+returns c = let n = c .args .n in
+    let e : n % 100 % 10 ≡ n % 10 = omega arith in
+    rw (e, tens-of-last) (set-before (digit n ∷ []) (now (c .args .out)) (c .args .at + 1) (c .args .at) (digit (n / 10)) refl)
+
+pub put-two-spec : {M : Type 1} → statement M
+put-two-spec =
+    tie.close
+    (tie.spec
+    cast-out
+    add-out
+    add-out-2
+    slice-write-out
+    cast-out-2
+    add-out-3
+    slice-write-out-2
+    same-length
+    returns)

@@ -1,0 +1,37 @@
+-- The outcome of block to lines, by what the judge says.
+use mathlib.Core.Logic.{_⊎_, inl, inr}
+use mathlib.Core.Path.{_≡_, refl}
+use mathlib.Core.List.{List}
+use Prim.Native.Nat.{ℕ, _≤_}
+use native.Mathlib.Omega.{arith}
+use lib.ListN.{length}
+use Rattle.units.specs.declared.Answer.{Answer}
+use Rattle.units.specs.Answers.{answer, Verdict, passed, refused, Packs}
+use Rattle.words.specs.Outcomes.{written, leaves}
+use Rattle.block.specs.Judging.{judged}
+use Rattle.block.specs.Records.{recordsOf}
+use Rattle.block.proofs.Known.{Known, judged-known}
+use Rattle.words.specs.Words.{Below}
+use Rattle.words.proofs.Writing.{written-answer}
+use Rattle.lines.proofs.Sizes.{text-bound}
+use Rattle.lines.specs.Text.{textOf, toLines}
+
+pub when-refused : (b out : List ℕ) (r : Answer) → judged b ≡ refused r → toLines b out ≡ leaves r out
+unfolding toLines written
+when-refused b out r e = rw e
+
+pub when-accepted : (b out : List ℕ) (k : ℕ) → judged b ≡ passed k → toLines b out ≡ written out (passed (textOf (recordsOf b)))
+unfolding toLines
+when-accepted b out k e = rw e
+
+-- the answer's numbers: those of the block, or 29 or 0 with at most 55,971 bytes
+pub outcome-told : (b out : List ℕ) → Below 256 b → (toLines b out .answer .n ≤ 29) × Packs (toLines b out .answer)
+outcome-told b out h = by (judged b) refl (judged-known b h)
+  where
+    size : (r : Answer) (k : ℕ) → (r ≡ answer 0 k 0 0) ⊎ (r ≡ answer 29 k 0 0) → k ≤ 55971 → (r .n ≤ 29) × Packs r
+    size r k (inl e) m = rw e (omega arith, record { n-fits = omega arith; a-fits = omega arith; b-fits = omega arith; c-fits = omega arith })
+    size r k (inr e) m = rw e (omega arith, record { n-fits = omega arith; a-fits = omega arith; b-fits = omega arith; c-fits = omega arith })
+
+    by : (v : Verdict ℕ) → judged b ≡ v → Known v → (toLines b out .answer .n ≤ 29) × Packs (toLines b out .answer)
+    by (refused r) e t = rw (when-refused b out r e) (omega (arith, t .listed), t .packs)
+    by (passed k) e t = rw (when-accepted b out k e) (size _ (length (textOf (recordsOf b))) (written-answer out (textOf (recordsOf b))) (text-bound b h (record { count = k; is = e })))

@@ -1,0 +1,22 @@
+-- Document 01, "The lines" and "Answer numbers": the text of a block, and the call that writes it.
+use mathlib.Core.List.{List, [], _∷_, _++_}
+use Prim.Native.Nat.{ℕ}
+use Rattle.units.specs.Answers.{passed, onward}
+use Rattle.words.specs.Outcomes.{Written, written}
+use Rattle.block.specs.Judging.{judged}
+use Rattle.block.specs.Records.{recordsOf}
+use Rattle.lines.specs.Lines.{Line, linesOf}
+
+-- "Every line ends with LF and has no filling"
+unfoldable pub ended : List Line → List ℕ
+ended [] = []
+ended (l ∷ ls) = l ++ (10 ∷ ended ls)
+
+-- "A block's text is its records' lines in order"
+unfoldable pub textOf : List (List ℕ) → List ℕ
+textOf [] = []
+textOf (r ∷ rs) = ended (linesOf r) ++ textOf rs
+
+-- "To lines: the block, then 29"
+unfoldable pub toLines : List ℕ → List ℕ → Written
+toLines block out = written out (onward (judged block) (λ _. passed (textOf (recordsOf block))))

@@ -1,0 +1,23 @@
+-- Document 01, "Answer numbers": what a conversion leaves behind, its answer and every byte of the lent output.
+use Prim.Native.Nat.{ℕ}
+use mathlib.Core.List.{List, _++_}
+use lib.Dec.{ltb}
+use lib.ListN.{length, drop}
+use Rattle.units.specs.Choice.{if_then_else_}
+use Rattle.units.specs.declared.Answer.{Answer}
+use Rattle.units.specs.Answers.{answer, Verdict, passed, refused}
+
+pub record Written : Type 0 where
+  pub answer : Answer
+  pub out : List ℕ
+
+-- "Success is n = 0 with a = bytes written (conversions)"; row 29: "output shorter than needed: a = bytes needed"; "Bytes of an output past those written stay"
+unfoldable pub written : List ℕ → Verdict (List ℕ) → Written
+written out (refused r) = record { answer = r; out = out }
+written out (passed bytes) =
+    if ltb (length out) (length bytes) then record { answer = answer 29 (length bytes) 0 0; out = out }
+    else record { answer = answer 0 (length bytes) 0 0; out = bytes ++ drop (length bytes) out }
+
+-- an answer and the output as it is then
+abbrev pub leaves : Answer → List ℕ → Written
+leaves r out = record { answer = r; out = out }
