@@ -11,7 +11,7 @@ use Rattle.block.specs.declared.Judged.the-variants.{Records, Refused}
 use Rattle.block.specs.declared.Refusal.{Refusal}
 use Rattle.block.specs.declared.Refusal.the-variants.{Size, WordCount, Checksum, Record}
 use Rattle.block.specs.Cases.{refusalOf, judgedOf}
-use Rattle.demands.specs.Agree.{JudgeAgrees, CedarJudgeAgrees, StepAgrees, FindAgrees, PrefixAgrees, CedarPrefixAgrees}
+use Rattle.demands.specs.Agree.{JudgeAgrees, CedarJudgeAgrees, StepAgrees, FindAgrees, PrefixAgrees, CedarPrefixAgrees, LinesAgree, CedarLinesAgree}
 
 -- the case that a refusal's numbers tell
 refusalCase : Answer → Refusal
@@ -68,3 +68,9 @@ prefix-agrees instrument r s p q = same p q
 
 pub cedar-prefix-agrees : CedarPrefixAgrees
 cedar-prefix-agrees instrument r s p q = same p q
+
+pub lines-agree : LinesAgree
+lines-agree block text r s t u p q = let e = same p q in (ap (λ w. w .answer) e, ap (λ w. w .out) e)
+
+pub cedar-lines-agree : CedarLinesAgree
+cedar-lines-agree block text r s t u p q = let e = same p q in (ap (λ w. w .number) e, ap (λ w. w .out) e)

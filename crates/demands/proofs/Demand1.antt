@@ -1,21 +1,27 @@
 -- Demand 1 holds.
 use mathlib.Core.Path.{_≡_, refl}
 use mathlib.Core.Bool.{Bool, true, false, cond, _&&_}
-use mathlib.Core.List.{List, [], _∷_}
+use mathlib.Core.List.{List, [], _∷_, _++_}
 use Prim.Native.Nat.{ℕ}
 use native.Mathlib.Omega.{arith}
 use borrow.Author.Tests.{ltb-true}
 use lib.Dec.{ltb, eqb}
-use Rattle.units.specs.Answers.{answer, answered}
+use lib.ListN.{length, drop}
+use Rattle.units.specs.Choice.{if_then_else_}
+use Rattle.units.specs.Answers.{answer, answered, Verdict, passed, refused, onward}
 use Rattle.units.proofs.Packing.{taken-apart}
 use Rattle.units.proofs.Verdicts.{and-on}
+use Rattle.words.specs.Outcomes.{written, leaves}
 use Rattle.block.specs.Judging.{judged}
+use Rattle.block.specs.Records.{recordsOf}
+use Rattle.lines.specs.Text.{textOf, toLines}
+use Rattle.lines.proofs.Outcome.{outcome-told}
 use Rattle.block.proofs.Known.{Told, told, judged-known, answer-known}
 use Rattle.prefix.specs.declared.Letters.{Letters}
 use Rattle.prefix.specs.LookUp.{beside}
 use Rattle.prefix.specs.Table.{table, dashes, prefixOf}
 use Rattle.cedar.specs.Calls.{prefixAnswer}
-use Rattle.demands.specs.Demand1.{JudgeAnswers, PrefixAnswers}
+use Rattle.demands.specs.Demand1.{JudgeAnswers, PrefixAnswers, LinesAnswers}
 
 pub judge-answers : JudgeAnswers
 judge-answers block bytes =
@@ -59,3 +65,20 @@ dashes-bytes = refl
 pub prefix-answers : PrefixAnswers
 prefix-answers instrument =
     (refl, taken-apart (prefixAnswer instrument) (letters-told (prefixOf instrument) (beside-bytes table instrument dashes table-bytes dashes-bytes) .packs))
+
+-- what is not a success leaves the output
+kept : (out : List ℕ) (v : Verdict (List ℕ)) → (written out v .answer .n ≡ 0 → ⊥) → written out v .out ≡ out
+unfolding written
+kept out (refused r) h = refl
+kept out (passed bytes) h = by (ltb (length out) (length bytes)) h
+  where
+    by : (t : Bool) → let w = if t then leaves (answer 29 (length bytes) 0 0) out else leaves (answer 0 (length bytes) 0 0) (bytes ++ drop (length bytes) out) in
+        (w .answer .n ≡ 0 → ⊥) → w .out ≡ out
+    by true h = refl
+    by false h = absurd (h refl)
+
+pub lines-answers : LinesAnswers
+unfolding toLines
+lines-answers block text bytes =
+    let t = outcome-told block text bytes in
+    (t .0, taken-apart (toLines block text .answer) (t .1), kept text (onward (judged block) (λ _. passed (textOf (recordsOf block)))))

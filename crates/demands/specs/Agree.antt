@@ -9,7 +9,11 @@ use Rattle.block.specs.Judging.{judged}
 use Rattle.block.specs.declared.Place.{Place}
 use Rattle.block.specs.Steps.{stepOf, findOf}
 use Rattle.words.specs.Words.{wordsOf}
-use Rattle.cedar.specs.Calls.{judgeAnswer, prefixAnswer}
+use Rattle.words.specs.Outcomes.{leaves}
+use Rattle.lines.specs.declared.Lined.{Lined}
+use Rattle.lines.specs.Cases.{linedOf}
+use Rattle.lines.specs.Text.{toLines}
+use Rattle.cedar.specs.Calls.{judgeAnswer, prefixAnswer, returned, converted}
 use Rattle.prefix.specs.declared.Letters.{Letters}
 use Rattle.prefix.specs.Table.{prefixOf}
 
@@ -35,3 +39,15 @@ PrefixAgrees = (instrument : ℕ) (r s : Letters) → r ≡ prefixOf instrument 
 -- `cedar_prefix`
 abbrev pub CedarPrefixAgrees : Type 0
 CedarPrefixAgrees = (instrument r s : ℕ) → r ≡ packedOf (prefixAnswer instrument) → s ≡ packedOf (prefixAnswer instrument) → r ≡ s
+
+-- `lines::to_lines`: the answer and every byte of the text
+abbrev pub LinesAgree : Type 0
+LinesAgree =
+    (block text : List ℕ) (r s : Lined) (t u : List ℕ) → leaves (linedOf r) t ≡ toLines block text → leaves (linedOf s) u ≡ toLines block text →
+    (linedOf r ≡ linedOf s) × (t ≡ u)
+
+-- `cedar_to_lines`
+abbrev pub CedarLinesAgree : Type 0
+CedarLinesAgree =
+    (block text : List ℕ) (r s : ℕ) (t u : List ℕ) → returned r t ≡ converted (toLines block text) → returned s u ≡ converted (toLines block text) →
+    (r ≡ s) × (t ≡ u)

@@ -5,6 +5,7 @@ use Prim.Native.Nat.{ℕ, _≤_}
 use Rattle.units.specs.declared.Answer.{Answer}
 use Rattle.units.specs.Answers.{packedOf, takenApart}
 use Rattle.words.specs.Words.{Below}
+use Rattle.lines.specs.Text.{toLines}
 use Rattle.cedar.specs.Calls.{judgeAnswer, prefixAnswer}
 
 -- the four numbers that a C caller takes out of the one it was given
@@ -18,3 +19,10 @@ JudgeAnswers = (block : List ℕ) → Below 256 block → (judgeAnswer block .n 
 -- "The prefix call always succeeds"
 abbrev pub PrefixAnswers : Type 0
 PrefixAnswers = (instrument : ℕ) → (prefixAnswer instrument .n ≡ 0) × Kept (prefixAnswer instrument)
+
+-- "To lines: the block, then 29"; "Every refusal leaves every buffer untouched"
+abbrev pub LinesAnswers : Type 0
+LinesAnswers =
+    (block text : List ℕ) → Below 256 block →
+    (toLines block text .answer .n ≤ 29) × Kept (toLines block text .answer)
+    × ((toLines block text .answer .n ≡ 0 → ⊥) → toLines block text .out ≡ text)

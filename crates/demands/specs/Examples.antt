@@ -6,6 +6,10 @@ use mathlib.Core.List.{List, [], _∷_, map}
 use Rattle.units.specs.declared.Answer.{Answer}
 use Rattle.units.specs.Answers.{answer}
 use Rattle.words.specs.Words.{bytesOf}
+use lib.ListN.{length}
+use Rattle.record.specs.Lines.{lineCount}
+use Rattle.block.specs.Records.{recordsOf}
+use Rattle.lines.specs.Text.{textOf}
 use Rattle.prefix.specs.Table.{letters, prefixOf}
 use Rattle.cedar.specs.Calls.{judgeAnswer}
 
@@ -44,3 +48,7 @@ prefixRows = (30, "MLH") ∷ (5140, "AQF") ∷ (7240, "---") ∷ (0, "---") ∷ 
 
 abbrev pub PrefixRows : Type 0
 PrefixRows = map (λ e. prefixOf (e .0)) prefixRows ≡ map (λ e. letters (e .1)) prefixRows
+
+-- example 1: K's "text is 6 lines, 150 bytes"
+abbrev pub TextOfK : Type 0
+TextOfK = let rs = recordsOf (bytesOf (blockK 2 33020)) in (length (textOf rs) ≡ 150) × (map lineCount rs ≡ 6 ∷ [])

@@ -48,7 +48,7 @@ module _ (lprol jpar mpar nrow : ℕ) where
   abbrev rows : List ℕ
   rows = times (nrow + 1) (part mpar)
 
-  length-plan : length (plan lprol jpar mpar nrow) ≡ linesNeeded lprol jpar mpar nrow
+  pub length-plan : length (plan lprol jpar mpar nrow) ≡ linesNeeded lprol jpar mpar nrow
   unfolding plan
   length-plan =
       omega (
@@ -157,7 +157,7 @@ module _ (r : List ℕ) where
         record { lines = l; bytes = t; count-most = omega arith; size-most = omega (arith, cards-size) }
 
   module _ (e : eqb (word r 2) 1002 ≡ true) where
-    data-count : lineCount r ≡ linesNeeded (word r 13) (word r 14) (word r 15) (word r 16)
+    pub data-count : lineCount r ≡ linesNeeded (word r 13) (word r 14) (word r 15) (word r 16)
     unfolding lineCount
     data-count = simp e
 

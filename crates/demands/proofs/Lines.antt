@@ -1,0 +1,257 @@
+-- The promises of the text hold.
+use mathlib.Core.Path.{_≡_, refl, sym, ap, ap₂, _∙_}
+use mathlib.Core.Bool.{Bool, true, false}
+use mathlib.Core.List.{List, [], _∷_, _++_, append-assoc, append-nil}
+use Prim.Native.Nat.{ℕ, zero, suc, _+_, _-_, _*_, _/_, _%_, _≤_, _<_}
+use native.Mathlib.Nat.{zero-add, suc-add}
+use native.Mathlib.Omega.{arith}
+use borrow.Author.Tests.{ltb-true, ltb-false}
+use lib.Dec.{ltb, eqb}
+use lib.ListN.{length, getD, take, drop, set, replicate, length-append, length-take, length-drop, length-set}
+use lib.Seq.{sets, sets-eq, drop-length, set-append-left, set-getD, getD-set-other, take-set-le, take-set-lt, drop-set-lt, drop-set-add, length-take-le}
+use Rattle.units.specs.Choice.{if_then_else_}
+use Rattle.words.specs.Words.{word, bytesOf, All}
+use Rattle.words.proofs.Laws.{length-bytesOf}
+use Rattle.words.proofs.Writing.{sets-append}
+use Rattle.record.specs.Lines.{lineCount}
+use Rattle.record.specs.Rules.{KindOk, catalogue, header, dataRecord, RecordOk}
+use Rattle.field.specs.Writing.{fieldOf}
+use Rattle.field.proofs.Written.{length-fieldOf}
+use Rattle.lines.specs.Lines.{fieldsOf, shorter, part, times, plan, dataPlan, laid, cardLines, shown, linesOf}
+use Rattle.lines.specs.Text.{ended, textOf}
+use Rattle.lines.specs.Columns.{endsBefore, columnsBefore}
+use Rattle.lines.proofs.Turns.{length-fieldsOf, fieldsIn}
+use Rattle.lines.proofs.Sizes.{sized, text-bound, data-count, data-size, data-lines, cards-lines, is-data, data-is, length-plan, fieldsIn-plan}
+use Rattle.demands.specs.Lines.{LineCount, LineWidth, TextBound, TextReached, SixColumns, WordStands}
+
+pub line-count : LineCount
+line-count r h = sized r h .lines
+
+pub text-most : TextBound
+text-most = text-bound
+
+-- ---- widths
+
+module _ {A : Type 0} (P : A → Type 0) where
+  all-append : (xs ys : List A) → All P xs → All P ys → All P (xs ++ ys)
+  all-append [] ys h k = k
+  all-append (x ∷ xs) ys h k = (h .0, all-append xs ys (h .1) k)
+
+Narrow : ℕ → Type 0
+Narrow n = n ≤ 20
+
+part-narrow : (n : ℕ) → All Narrow (part n)
+unfolding part Narrow
+part-narrow n = all-append Narrow (replicate (n / 20) 20) (shorter (n % 20)) (full (n / 20)) (rest (n % 20) (omega arith))
+  where
+    full : (k : ℕ) → All Narrow (replicate k 20)
+    full zero = tt
+    full (suc k) = (omega arith, full k)
+
+    rest : (k : ℕ) → k ≤ 20 → All Narrow (shorter k)
+    rest zero h = tt
+    rest (suc k) h = (h, tt)
+
+times-narrow : (k n : ℕ) → All Narrow (times k (part n))
+unfolding times
+times-narrow zero n = tt
+times-narrow (suc k) n = all-append Narrow (part n) (times k (part n)) (part-narrow n) (times-narrow k n)
+
+plan-narrow : (lprol jpar mpar nrow : ℕ) → All Narrow (plan lprol jpar mpar nrow)
+unfolding plan
+plan-narrow lprol jpar mpar nrow =
+    all-append Narrow (part lprol) _ (part-narrow lprol)
+    (all-append Narrow (part jpar) _ (part-narrow jpar) (all-append Narrow (part jpar) _ (part-narrow jpar) (times-narrow (nrow + 1) mpar)))
+
+fields-width : (n : ℕ) (ws : List ℕ) → n ≤ 20 → length (fieldsOf (take n ws)) ≤ 120
+fields-width n ws h = omega (arith, length-fieldsOf (take n ws), length-take n ws)
+
+laid-width : (ns ws : List ℕ) → All Narrow ns → All (λ l. length l ≤ 120) (laid ns ws)
+unfolding laid Narrow
+laid-width [] ws h = tt
+laid-width (n ∷ ns) ws h = (fields-width n ws (h .0), laid-width ns (drop n ws) (h .1))
+
+cards-width : (n : ℕ) (ws : List ℕ) → All (λ l. length l ≤ 120) (cardLines n ws)
+unfolding cardLines
+cards-width zero ws = tt
+cards-width (suc n) ws = (omega (arith, length-bytesOf (take 40 ws), length-take 40 ws), cards-width n (drop 40 ws))
+
+pub line-width : LineWidth
+line-width r h = by (h .kind)
+  where
+    cards : eqb (word r 2) 1002 ≡ false → All (λ l. length l ≤ 120) (linesOf r)
+    cards e = rw (cards-lines r e) (fields-width 20 (shown r) (omega arith), cards-width (lineCount r - 1) (drop 40 r))
+
+    by : KindOk r → All (λ l. length l ≤ 120) (linesOf r)
+    by (catalogue e c) = cards (ap (λ k. eqb k 1002) e)
+    by (header e c) = cards (ap (λ k. eqb k 1002) e)
+    by (dataRecord e d) = rw (data-lines r (ap (λ k. eqb k 1002) e)) (laid-width (dataPlan r) (shown r) (plan-narrow (word r 13) (word r 14) (word r 15) (word r 16)))
+
+-- ---- the largest text
+
+pub text-reached : TextReached
+unfolding textOf lineCount
+text-reached r h kind l j m n =
+    let z = sized r h in
+    let e = ap (λ k. eqb k 1002) kind in
+    let d = is-data r h kind in
+    let k : length r ≡ 7998 = d .sum ∙ rw (l, j, m, n) refl in
+    let c : lineCount r ≡ 7983 = data-count r e ∙ rw (l, j, m, n) refl in
+    omega (arith, length-append (ended (linesOf r)) [], z .bytes, data-size r e)
+
+-- ---- one word changed
+
+-- stores within the first of two lists, and within the second
+sets-left : (vs xs ys : List ℕ) (k : ℕ) → k + length vs ≤ length xs → sets (xs ++ ys) k vs ≡ sets xs k vs ++ ys
+sets-left [] xs ys k h = refl
+sets-left (v ∷ vs) xs ys k h =
+    ap (λ l. sets l (suc k) vs) (set-append-left xs ys k v (omega arith))
+    ∙ sets-left vs (set xs k v) ys (suc k) (rw (length-set xs k v) (omega arith))
+
+set-right : (xs ys : List ℕ) (k v : ℕ) → set (xs ++ ys) (length xs + k) v ≡ xs ++ set ys k v
+set-right [] ys k v = rw zero-add
+set-right (x ∷ xs) ys k v = rw suc-add (ap (λ l. x ∷ l) (set-right xs ys k v))
+
+sets-right : (vs xs ys : List ℕ) (k : ℕ) → sets (xs ++ ys) (length xs + k) vs ≡ xs ++ sets ys k vs
+sets-right [] xs ys k = refl
+sets-right (v ∷ vs) xs ys k =
+    ap (λ l. sets l (suc (length xs + k)) vs) (set-right xs ys k v)
+    ∙ ap (λ n. sets (xs ++ set ys k v) n vs) (omega arith)
+    ∙ sets-right vs xs (set ys k v) (suc k)
+
+-- a word of a line
+fields-set : (ws : List ℕ) (j v : ℕ) → j < length ws → fieldsOf (set ws j v) ≡ sets (fieldsOf ws) (6 * j) (fieldOf v)
+unfolding fieldsOf
+fields-set [] j v h = absurd (omega arith)
+fields-set (w ∷ ws) zero v h =
+    let l = length-fieldOf v in
+    let m = length-fieldOf w in
+    sym (sets-left (fieldOf v) (fieldOf w) (fieldsOf ws) 0 (omega arith) ∙ ap (λ t. t ++ fieldsOf ws) (over (fieldOf v) (fieldOf w) (omega arith)))
+  where
+    over : (vs xs : List ℕ) → length vs ≡ length xs → sets xs 0 vs ≡ vs
+    over vs xs e =
+        let n : 0 + length vs ≡ length xs = omega arith in
+        sets-eq vs xs 0 (omega arith) ∙ ap (λ k. vs ++ drop k xs) n ∙ ap (λ t. vs ++ t) (drop-length xs) ∙ append-nil vs
+fields-set (w ∷ ws) (suc j) v h =
+    let e : 6 * suc j ≡ length (fieldOf w) + 6 * j = omega (arith, length-fieldOf w) in
+    ap (λ t. fieldOf w ++ t) (fields-set ws j v (omega arith))
+    ∙ sym (ap (λ k. sets (fieldOf w ++ fieldsOf ws) k (fieldOf v)) e ∙ sets-right (fieldOf v) (fieldOf w) (fieldsOf ws) (6 * j))
+
+-- a word on its line
+laid-set : (ns ws : List ℕ) (j v : ℕ) → j < fieldsIn ns → fieldsIn ns ≤ length ws
+    → ended (laid ns (set ws j v)) ≡ sets (ended (laid ns ws)) (6 * j + endsBefore ns j) (fieldOf v)
+unfolding ended laid fieldsIn endsBefore
+laid-set [] ws j v h k = absurd (omega arith)
+laid-set (n ∷ ns) ws j v h k = by (ltb j n) refl (laid-set ns (drop n ws) (j - n) v)
+  where
+    line : List ℕ
+    line = fieldsOf (take n ws)
+
+    others : List ℕ
+    others = ended (laid ns (drop n ws))
+
+    size : length line ≡ 6 * n
+    size = length-fieldsOf (take n ws) ∙ ap (λ k. 6 * k) (length-take-le n ws (omega arith))
+
+    by : (t : Bool) → ltb j n ≡ t
+        → (j - n < fieldsIn ns → fieldsIn ns ≤ length (drop n ws) → ended (laid ns (set (drop n ws) (j - n) v)) ≡ sets others (6 * (j - n) + endsBefore ns (j - n)) (fieldOf v))
+        → fieldsOf (take n (set ws j v)) ++ (10 ∷ ended (laid ns (drop n (set ws j v))))
+        ≡ sets (line ++ (10 ∷ others)) (6 * j + (if t then 0 else suc (endsBefore ns (j - n)))) (fieldOf v)
+    by true e ih =
+        let l = ltb-true j n e in
+        let z : 6 * j + 0 ≡ 6 * j = omega arith in
+        ap₂ (λ (a b : List ℕ). fieldsOf a ++ (10 ∷ ended (laid ns b))) (take-set-lt n ws j v l) (drop-set-lt n ws j v l)
+        ∙ ap (λ t. t ++ (10 ∷ others)) (fields-set (take n ws) j v (omega (arith, length-take-le n ws (omega arith))))
+        ∙ sym (ap (λ k. sets (line ++ (10 ∷ others)) k (fieldOf v)) z ∙ sets-left (fieldOf v) line (10 ∷ others) (6 * j) (omega (arith, size, length-fieldOf v)))
+    by false e ih =
+        let l = ltb-false j n e in
+        let p : n + (j - n) ≡ j = omega arith in
+        let q : drop n (set ws j v) ≡ set (drop n ws) (j - n) v = ap (λ i. drop n (set ws i v)) (sym p) ∙ drop-set-add n ws (j - n) v in
+        let i = ih (omega arith) (omega (arith, length-drop n ws)) in
+        let s : 6 * j + suc (endsBefore ns (j - n)) ≡ length (line ++ (10 ∷ [])) + (6 * (j - n) + endsBefore ns (j - n)) = omega (arith, size, length-append line (10 ∷ [])) in
+        ap₂ (λ (a b : List ℕ). fieldsOf a ++ (10 ∷ ended (laid ns b))) (take-set-le n ws j v l) q
+        ∙ ap (λ t. line ++ (10 ∷ t)) i
+        ∙ sym (append-assoc line (10 ∷ []) (sets others (6 * (j - n) + endsBefore ns (j - n)) (fieldOf v)))
+        ∙ sym (
+        ap₂ (λ (t : List ℕ) (k : ℕ). sets t k (fieldOf v)) (sym (append-assoc line (10 ∷ []) others)) s
+        ∙ sets-right (fieldOf v) (line ++ (10 ∷ [])) others (6 * (j - n) + endsBefore ns (j - n))
+        )
+
+ends-le : (ns : List ℕ) (j : ℕ) → endsBefore ns j ≤ length ns
+unfolding endsBefore
+ends-le [] j = omega arith
+ends-le (n ∷ ns) j = by (ltb j n) (ends-le ns (j - n))
+  where
+    by : (t : Bool) → endsBefore ns (j - n) ≤ length ns → (if t then 0 else suc (endsBefore ns (j - n))) ≤ suc (length ns)
+    by true h = omega arith
+    by false h = omega arith
+
+-- a word of a Data record behind its counts
+module _ (r : List ℕ) (h : RecordOk r) (kind : word r 2 ≡ 1002) (j v : ℕ) (low : 16 ≤ j) (high : j < length r) where
+  same : (i : ℕ) → i < 16 → getD (set r j v) i 0 ≡ getD r i 0
+  same i l = getD-set-other r j i v 0 (λ e. omega arith)
+
+  kind-same : word (set r j v) 2 ≡ 1002
+  kind-same = same 1 (omega arith) ∙ kind
+
+  plan-same : dataPlan (set r j v) ≡ dataPlan r
+  plan-same = rw (same 12 (omega arith), same 13 (omega arith), same 14 (omega arith), same 15 (omega arith)) refl
+
+  count-same : lineCount (set r j v) ≡ lineCount r
+  count-same =
+      data-count (set r j v) (ap (λ k. eqb k 1002) kind-same)
+      ∙ rw (same 12 (omega arith), same 13 (omega arith), same 14 (omega arith), same 15 (omega arith)) (sym (data-count r (ap (λ k. eqb k 1002) kind)))
+
+  abbrev head : List ℕ → List ℕ
+  head t = lineCount r ∷ (1101 ∷ t)
+
+  shown-set : head (drop 2 (set r j v)) ≡ set (head (drop 2 r)) j v
+  shown-set =
+      let p : 2 + (j - 2) ≡ j = omega arith in
+      let q : j ≡ suc (suc (j - 2)) = omega arith in
+      ap (λ i. head (drop 2 (set r i v))) (sym p)
+      ∙ ap head (drop-set-add 2 r (j - 2) v)
+      ∙ ap (λ i. set (head (drop 2 r)) i v) (sym q)
+
+  record-set : ended (linesOf (set r j v)) ≡ sets (ended (linesOf r)) (columnsBefore r j) (fieldOf v)
+  record-set =
+      let d = is-data r h kind in
+      let f = fieldsIn-plan (word r 13) (word r 14) (word r 15) (word r 16) in
+      let l : length (head (drop 2 r)) ≡ length r = omega (arith, length-drop 2 r) in
+      data-is (set r j v) kind-same
+      ∙ ap₂ (λ (ns : List ℕ) (n : ℕ). ended (laid ns (n ∷ (1101 ∷ drop 2 (set r j v))))) plan-same count-same
+      ∙ ap (λ ws. ended (laid (dataPlan r) ws)) shown-set
+      ∙ laid-set (dataPlan r) (head (drop 2 r)) j v (omega (arith, d .sum)) (omega (arith, d .sum))
+      ∙ ap (λ t. sets t (columnsBefore r j) (fieldOf v)) (sym (data-is r kind))
+
+  -- the column lies in the record's text
+  column-room : columnsBefore r j + length (fieldOf v) ≤ length (ended (linesOf r))
+  column-room =
+      let e = ap (λ k. eqb k 1002) kind in
+      omega (
+        arith,
+        length-fieldOf v,
+        ends-le (dataPlan r) j,
+        length-plan (word r 13) (word r 14) (word r 15) (word r 16),
+        data-count r e,
+        data-size r e,
+        sized r h .bytes,
+      )
+
+text-append : (rs ss : List (List ℕ)) → textOf (rs ++ ss) ≡ textOf rs ++ textOf ss
+unfolding textOf
+text-append [] ss = refl
+text-append (r ∷ rs) ss = ap (λ t. ended (linesOf r) ++ t) (text-append rs ss) ∙ sym (append-assoc (ended (linesOf r)) (textOf rs) (textOf ss))
+
+pub six-columns : SixColumns
+unfolding textOf
+six-columns before after r h kind j v low high =
+    text-append before (set r j v ∷ after)
+    ∙ ap (λ t. textOf before ++ (t ++ textOf after)) (record-set r h kind j v low high)
+    ∙ ap (λ t. textOf before ++ t) (sym (sets-left (fieldOf v) (ended (linesOf r)) (textOf after) (columnsBefore r j) (column-room r h kind j v low high)))
+    ∙ sym (sets-right (fieldOf v) (textOf before) (ended (linesOf r) ++ textOf after) (columnsBefore r j))
+    ∙ ap (λ t. sets t (length (textOf before) + columnsBefore r j) (fieldOf v)) (sym (text-append before (r ∷ after)))
+
+pub word-stands : WordStands
+word-stands before after r h kind j low high =
+    ap (λ q. textOf (before ++ q ∷ after)) (sym (set-getD r j 0)) ∙ six-columns before after r h kind j (getD r j 0) low high
