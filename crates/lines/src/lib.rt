@@ -278,7 +278,7 @@ fn text_size(block: &[u8]) -> Bytes
 }
 
 // Writes an accepted block's text.
-fn write_records(block: &[u8], out: &mut [u8]) -> Bytes
+pub fn write_records(block: &[u8], out: &mut [u8]) -> Bytes
     requires { ⌜ Accepted (now block) × Room (now out) 0 (textOf (recordsOf (now block))) ⌝ }
     ensures { λ r. ⌜ Put (now (out .entry)) 0 (textOf (recordsOf (now (block .entry)))) (now (out .exit)) (r .0) ⌝ }
 {

@@ -1,0 +1,49 @@
+-- Lines of numbers, a piece at a time, and how long they are.
+use mathlib.Core.Path.{_≡_, refl, sym, ap, _∙_}
+use mathlib.Core.List.{List, [], _∷_, _++_, map, append-assoc}
+use Prim.Native.Nat.{ℕ, _+_, _*_, _≤_, _<_}
+use native.Mathlib.Numerals.{add-one}
+use native.Mathlib.Omega.{arith}
+use lib.ListN.{length, getD, drop, length-append}
+use lib.Seq.{drop-cons}
+use Rattle.units.specs.declared.Answer.{Answer}
+use Rattle.report.specs.Text.{bytesFrom, text, behind, lineOf}
+use Rattle.report.specs.Decimal.{decimalOf, spaced}
+use Rattle.report.specs.Refusal.{refusalLine}
+use Rattle.report.proofs.Digits.{most-digits}
+
+-- the next number, and the others
+pub spaced-turn : (ns : List ℕ) (i : ℕ) → i < length ns → spaced (drop i ns) ≡ (32 ∷ []) ++ (decimalOf (getD ns i 0) ++ spaced (drop (i + 1) ns))
+unfolding spaced
+spaced-turn ns i h = rw (add-one, drop-cons ns i 0)
+
+-- numbers behind the first item of a line
+pub behind-numbers : (ns : List ℕ) (xs : List (List ℕ)) → behind (map decimalOf ns ++ xs) ≡ spaced ns ++ behind xs
+unfolding behind spaced
+behind-numbers [] xs = refl
+behind-numbers (n ∷ ns) xs =
+    ap (λ l. 32 ∷ (decimalOf n ++ l)) (behind-numbers ns xs) ∙ ap (λ l. 32 ∷ l) (sym (append-assoc (decimalOf n) (spaced ns) (behind xs)))
+
+module _ (r : Answer) where
+  abbrev pub fourOf : List ℕ
+  fourOf = r .n ∷ r .a ∷ r .b ∷ r .c ∷ []
+
+  pub refusal-pieces : refusalLine r ≡ text "refused" ++ (spaced fourOf ++ (10 ∷ []))
+  unfolding refusalLine lineOf behind
+  refusal-pieces = ap (λ l. text "refused" ++ l) (behind-numbers fourOf [])
+
+pub spaced-most : (ns : List ℕ) → length (spaced ns) ≤ 11 * length ns
+unfolding spaced
+spaced-most [] = omega arith
+spaced-most (n ∷ ns) = omega (arith, length-append (decimalOf n) (spaced ns), most-digits n, spaced-most ns)
+
+pub refusal-most : (r : Answer) → length (refusalLine r) ≤ 52
+unfolding bytesFrom
+refusal-most r =
+    omega (
+      arith,
+      ap length (refusal-pieces r),
+      length-append (text "refused") (spaced (fourOf r) ++ (10 ∷ [])),
+      length-append (spaced (fourOf r)) (10 ∷ []),
+      spaced-most (fourOf r),
+    )

@@ -1,0 +1,10 @@
+-- Document 01, "Examples": the line that says a refusal.
+use Prim.Native.Nat.{ℕ}
+use mathlib.Core.List.{List, [], _∷_}
+use Rattle.units.specs.declared.Answer.{Answer}
+use Rattle.report.specs.Text.{text, lineOf}
+use Rattle.report.specs.Decimal.{decimalOf}
+
+-- "For a refusal it prints only one line, "refused" and the four numbers, spaced and ended in the same way"
+unfoldable pub refusalLine : Answer → List ℕ
+refusalLine r = lineOf (text "refused" ∷ decimalOf (r .n) ∷ decimalOf (r .a) ∷ decimalOf (r .b) ∷ decimalOf (r .c) ∷ [])
