@@ -14,6 +14,7 @@
 
 #include "blocks.h"
 #include "cedar.h"
+#include "chance.h"
 #include "reference.h"
 #include "words.h"
 
@@ -21,6 +22,7 @@
 struct calls {
     const char *whose;
     uint64_t (*judge)(const uint8_t *, size_t);
+    uint64_t (*to_lines)(const uint8_t *, size_t, uint8_t *, size_t);
     uint64_t (*prefix)(uint16_t);
 };
 
@@ -28,6 +30,13 @@ static uint64_t judge_nothing(const uint8_t *block, size_t length)
 {
     (void)block;
     return length;
+}
+
+static uint64_t to_lines_nothing(const uint8_t *block, size_t block_length, uint8_t *text, size_t text_length)
+{
+    (void)block;
+    (void)text;
+    return block_length + text_length;
 }
 
 static uint64_t prefix_nothing(uint16_t instrument)
@@ -39,16 +48,39 @@ enum { LIBRARY, REFERENCE, NOTHING, SETS };
 
 /* The last ones cost what it costs to make a call. */
 static const struct calls sets[SETS] = {
-    {"library", cedar_judge, cedar_prefix},
-    {"reference", reference_judge, reference_prefix},
-    {"nothing", judge_nothing, prefix_nothing},
+    {"library", cedar_judge, cedar_to_lines, cedar_prefix},
+    {"reference", reference_judge, reference_to_lines, reference_prefix},
+    {"nothing", judge_nothing, to_lines_nothing, prefix_nothing},
 };
 
 static struct block block;
 
+/* Every call writes over the lines of the one before it: nothing clears them. */
+static uint8_t text[CEDAR_TEXT_MOST];
+
+static void build_k(void)
+{
+    block_of_k(&block);
+}
+
 static void build_data(void)
 {
     block_of_most_data(&block);
+}
+
+/* The longest text, with values of both signs and of 1 to 5 digits. */
+static void build_values(void)
+{
+    static const unsigned tens[] = {10, 100, 1000, 10000, 32768};
+    struct chance chance = {1};
+    uint8_t *record = block_of_most_data(&block);
+
+    for (size_t number = NROW + 1; number <= word_at(record, 1); number++) {
+        int value = (int)(draw(&chance) % PICK(&chance, tens));
+
+        put_word(record, number, (uint16_t)(one_in(&chance, 2) ? value : -value));
+    }
+    block_seal(&block);
 }
 
 static void build_catalogue(void)
@@ -91,6 +123,17 @@ static uint64_t judge(const struct calls *calls)
     return calls->judge(block.bytes, block.length);
 }
 
+static uint64_t to_lines(const struct calls *calls)
+{
+    return calls->to_lines(block.bytes, block.length, text, sizeof text);
+}
+
+/* Refusal 29. */
+static uint64_t to_no_lines(const struct calls *calls)
+{
+    return calls->to_lines(block.bytes, block.length, text, 0);
+}
+
 static uint64_t prefix_listed(const struct calls *calls)
 {
     return calls->prefix(6320);
@@ -111,6 +154,12 @@ static const struct task {
     {"judge-records", build_records, judge},
     {"judge-bad-checksum", build_bad_checksum, judge},
     {"judge-bad-card", build_bad_card, judge},
+    {"lines-data", build_values, to_lines},
+    {"lines-data-zeros", build_data, to_lines},
+    {"lines-catalogue", build_catalogue, to_lines},
+    {"lines-records", build_records, to_lines},
+    {"lines-k", build_k, to_lines},
+    {"lines-no-room", build_data, to_no_lines},
     {"prefix-listed", build_none, prefix_listed},
     {"prefix-unlisted", build_none, prefix_unlisted},
 };

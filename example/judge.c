@@ -2,12 +2,7 @@
  * Judges the block in the file named on the command line, and says what the library answered.
  * On x86-64: cc -Iinclude example/judge.c target/staticlib/libcedar.a -o judge && ./judge example/k.block
  */
-#include <stdio.h>
-
-#include "cedar.h"
-
-/* One byte more than the largest block has, so that a longer file is refused as well. */
-enum { ROOM = 16001 };
+#include "example.h"
 
 /* Bytes of the block before word 3 of its first record, which is the instrument. */
 enum { FIRST_INSTRUMENT = 6 };
@@ -17,21 +12,6 @@ static void print_prefix(uint16_t instrument)
     uint64_t prefix = cedar_prefix(instrument);
 
     printf("prefix %c%c%c\n", (int)cedar_a(prefix), (int)cedar_b(prefix), (int)cedar_c(prefix));
-}
-
-/* The number of bytes read into `block`, or -1 if the file cannot be read. */
-static long read_block(const char *name, uint8_t *block)
-{
-    FILE *file = fopen(name, "rb");
-    size_t length;
-    int failed;
-
-    if (file == NULL)
-        return -1;
-    length = fread(block, 1, ROOM, file);
-    failed = ferror(file);
-    fclose(file);
-    return failed ? -1 : (long)length;
 }
 
 int main(int argc, char **argv)
@@ -46,8 +26,7 @@ int main(int argc, char **argv)
         return 2;
     }
     answer = cedar_judge(block, (size_t)length);
-    printf("answer %u %u %u %u\n", (unsigned)cedar_n(answer), (unsigned)cedar_a(answer),
-           (unsigned)cedar_b(answer), (unsigned)cedar_c(answer));
+    print_answer(stdout, answer);
     if (cedar_n(answer) != 0)
         return 1;
     printf("records %u\n", (unsigned)cedar_a(answer));

@@ -14,7 +14,7 @@ void block_begin(struct block *block)
 static uint8_t *add_record(struct block *block, uint16_t kind, size_t ltot)
 {
     static const uint16_t instrument_to_times[] = {30, 1, 1983, 508, 1422, 0, 1983, 508, 1422, 0};
-    uint8_t *record = block->bytes + 2 * block->words;
+    uint8_t *record = block->bytes + bytes_of(block->words);
 
     block_resize(block, block->words + ltot);
     put_word(record, 1, (uint16_t)ltot);
@@ -41,14 +41,14 @@ uint8_t *block_add_cards(struct block *block, uint16_t kind, size_t cards)
 {
     uint8_t *record = add_record(block, kind, LINE_WORDS * (1 + cards));
 
-    memset(record + 2 * LINE_WORDS, ' ', 2 * LINE_WORDS * cards);
+    memset(record + bytes_of(LINE_WORDS), ' ', bytes_of(LINE_WORDS * cards));
     return record;
 }
 
 void block_resize(struct block *block, size_t words)
 {
     if (words > block->words)
-        memset(block->bytes + 2 * block->words, 0, 2 * (words - block->words));
+        memset(block->bytes + bytes_of(block->words), 0, bytes_of(words - block->words));
     block->words = words;
 }
 
@@ -69,7 +69,7 @@ void block_seal(struct block *block)
 {
     put_word(block->bytes, 1, (uint16_t)block->words);
     put_word(block->bytes, block->words, exclusive_or(block->bytes, block->words - 1));
-    block->length = 2 * block->words;
+    block->length = bytes_of(block->words);
 }
 
 void block_of(struct block *block, const int *words, size_t count)
@@ -77,16 +77,28 @@ void block_of(struct block *block, const int *words, size_t count)
     for (size_t i = 0; i < count; i++)
         put_word(block->bytes, 1 + i, (uint16_t)words[i]);
     block->words = count;
-    block->length = 2 * count;
+    block->length = bytes_of(count);
 }
 
-void block_of_most_data(struct block *block)
+void block_of_k(struct block *block)
+{
+    static const int words[] = {
+        26,  24,  1002, 30,  1,   1983, 508, 1422, 0,   1983, 508, 1422,   0,
+        16,  1,   2,    2,   540, 285,  110, 550,  250, 900,  300, -32767, -32516,
+    };
+
+    block_of(block, words, sizeof words / sizeof words[0]);
+}
+
+uint8_t *block_of_most_data(struct block *block)
 {
     struct counts counts = {16, 0, 1, 7981};
+    uint8_t *record;
 
     block_begin(block);
-    block_add_data(block, counts);
+    record = block_add_data(block, counts);
     block_close(block);
+    return record;
 }
 
 void block_of_most_cards(struct block *block)

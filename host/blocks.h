@@ -6,18 +6,19 @@
 #include <stdint.h>
 
 #include "format.h"
+#include "words.h"
 
 /* Words that a damaged block may have beyond the most. */
 enum { EXCESS = 64 };
 
 /* Bytes: enough for a length that is a block's again when its words are counted in 16 bits. */
-enum { BLOCK_ROOM = 2 * (65536 + BLOCK_MOST + EXCESS) };
+enum { BLOCK_ROOM = WORD_BYTES * (65536 + BLOCK_MOST + EXCESS) };
 
 enum { RECORDS_MOST = (BLOCK_MOST + EXCESS) / PROLOGUE_LEAST };
 
 struct block {
     size_t words;
-    size_t length; /* the bytes to lend; twice the words, unless it is damaged */
+    size_t length; /* the bytes to lend: those of the words, unless it is damaged */
     size_t records;
     size_t start[RECORDS_MOST + 1]; /* words before each record, and before what follows the last one */
     uint8_t bytes[BLOCK_ROOM];
@@ -48,8 +49,11 @@ void block_seal(struct block *block);
 /* The block of these words, as they are. */
 void block_of(struct block *block, const int *words, size_t count);
 
-/* 8,000 words: one Data record of LPROL 16, MPAR 1, NROW 7,981. */
-void block_of_most_data(struct block *block);
+/* Block K of document 01. */
+void block_of_k(struct block *block);
+
+/* 8,000 words, and the longest text: one Data record, which it gives, of LPROL 16, MPAR 1, NROW 7,981. */
+uint8_t *block_of_most_data(struct block *block);
 
 /* One Catalogue of 199 lines. */
 void block_of_most_cards(struct block *block);

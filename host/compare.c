@@ -8,148 +8,142 @@
 #include <inttypes.h>
 #include <stdio.h>
 #include <stdlib.h>
+#include <string.h>
 #include <unistd.h>
 
 #include "cedar.h"
 #include "generate.h"
-#include "guard.h"
 #include "paper.h"
 #include "reference.h"
-#include "tally.h"
+#include "trial.h"
 
-/* Answers of judge: 0 and the refusals. */
-enum { ANSWERS = 10 };
+/* Bytes: enough for a length that is too short when it is counted in 16 bits. */
+enum { TEXT_ROOM = 65536 + CEDAR_TEXT_MOST };
 
-struct run {
-    uint64_t seed, cases;
-    struct guard guard;
-    struct tally tally;
-    unsigned long reached[ANSWERS];
-};
+/* Answers that a block alone decides: 0 to 9. */
+#define BLOCK_ANSWERS UINT64_C(0x3ff)
 
-/* A call of judge on a copy of the block, and what came of it. */
-struct judged {
-    const uint8_t *copy;
-    size_t length;
-    bool returned, kept;
-    uint64_t answer;
-};
-
-static void call_judge(void *context)
+static uint64_t make_judge(const struct lent *block)
 {
-    struct judged *judged = context;
-
-    judged->answer = cedar_judge(judged->copy, judged->length);
+    return cedar_judge(block->copy, block->length);
 }
 
-static struct judged judge_at(struct guard guard, enum guard_end end, const struct block *block)
+static uint64_t make_to_lines(const struct lent *lent)
 {
-    struct judged judged = {guard_place(guard, end, block->bytes, block->length), block->length, false, false, 0};
+    const struct lent *block = &lent[0], *text = &lent[1];
 
-    judged.returned = guard_run(call_judge, &judged);
-    judged.kept = guard_kept(guard, end, block->bytes, block->length);
-    return judged;
+    return cedar_to_lines(block->copy, block->length, text->copy, text->length);
 }
 
-static bool is_right(struct judged judged, uint64_t answer)
+static struct call judge = {"judge", make_judge, 1, BLOCK_ANSWERS, {0}};
+static struct call to_lines = {"to lines", make_to_lines, 2, BLOCK_ANSWERS | UINT64_C(1) << 29, {0}};
+
+/* A block that the call must leave as it is. */
+static struct lent lend_block(const struct block *block)
 {
-    return judged.returned && judged.kept && judged.answer == answer;
+    struct lent lent = {"block", block->length, block->bytes, block->bytes, NULL};
+
+    return lent;
 }
 
-static void print_answer(const char *whose, uint64_t answer)
+static void compare_judge(struct trials *trials, const struct block *block)
 {
-    printf("  %s %" PRIu32 " %" PRIu32 " %" PRIu32 " %" PRIu32 "\n", whose, cedar_n(answer), cedar_a(answer),
-           cedar_b(answer), cedar_c(answer));
+    struct trial trial = {&judge, reference_judge(block->bytes, block->length), {lend_block(block)}};
+
+    try_call(trials, &trial);
 }
 
-static void print_judged(struct judged judged)
+/* Bytes by chance, drawn once; each text finds those from another start on. */
+enum { STARTS = 4096 };
+
+static uint8_t noise[STARTS + TEXT_ROOM];
+
+static void draw_noise(void)
 {
-    if (judged.returned)
-        print_answer("library", judged.answer);
+    struct chance chance = {0};
+
+    for (size_t i = 0; i < sizeof noise; i++)
+        noise[i] = (uint8_t)draw(&chance);
+}
+
+static void compare_text(struct trials *trials, struct chance *chance, const struct block *block, size_t length)
+{
+    static uint8_t after[TEXT_ROOM];
+    const uint8_t *before = noise + between(chance, 0, STARTS);
+    struct lent text = {"text", length, before, memcpy(after, before, length), NULL};
+    struct trial trial = {&to_lines, reference_to_lines(block->bytes, block->length, after, length),
+                          {lend_block(block), text}};
+
+    try_call(trials, &trial);
+}
+
+/* Texts about as long as the block needs; a block that is refused needs none, and gets one of any length. */
+static void compare_to_lines(struct trials *trials, struct chance *chance, const struct block *block)
+{
+    uint64_t answer = reference_to_lines(block->bytes, block->length, NULL, 0);
+    size_t needed = cedar_n(answer) == 29 ? cedar_a(answer) : between(chance, 2, CEDAR_TEXT_MOST);
+    const size_t larger[] = {CEDAR_TEXT_MOST, 65536, 65535 + needed, TEXT_ROOM};
+    const size_t lengths[] = {
+        0, 1, needed - 1, needed, needed + 1, between(chance, 0, 2 * needed), PICK(chance, larger),
+    };
+
+    if (cedar_n(answer) != 29)
+        compare_text(trials, chance, block, PICK(chance, lengths));
     else
-        printf("  library trapped outside of the block\n");
-    if (!judged.kept)
-        printf("  library changed bytes\n");
+        for (size_t i = 0; i < sizeof lengths / sizeof lengths[0]; i++)
+            compare_text(trials, chance, block, lengths[i]);
 }
 
-static void print_bytes(const struct block *block)
-{
-    enum { SHOWN = 96, A_LINE = 32 };
-
-    for (size_t i = 0; i < block->length && i < SHOWN; i++)
-        printf("%s%02x", i % A_LINE != 0 ? " " : i == 0 ? "  " : "\n  ", block->bytes[i]);
-    printf("\n");
-}
-
-/* Judges at both ends of the guarded room, so that reads before and after the block trap. */
-static void compare_block(struct run *run, uint64_t number, bool shown)
-{
-    static struct block block;
-    uint64_t answer;
-    struct judged first, second;
-
-    generate_block(run->seed, number, &block);
-    answer = reference_judge(block.bytes, block.length);
-    run->reached[cedar_n(answer)]++;
-    first = judge_at(run->guard, AT_START, &block);
-    second = judge_at(run->guard, AT_END, &block);
-    if (tally_fails(&run->tally, is_right(first, answer) && is_right(second, answer)) || shown) {
-        printf("case -s %" PRIu64 " -c %" PRIu64 ", %zu bytes\n", run->seed, number, block.length);
-        print_answer("reference", answer);
-        print_judged(first);
-        print_judged(second);
-        print_bytes(&block);
-    }
-}
-
-static void compare_prefix(struct run *run, uint16_t instrument)
+static void compare_prefix(struct tally *tally, uint16_t instrument)
 {
     uint64_t answer = reference_prefix(instrument);
     uint64_t found = cedar_prefix(instrument);
 
-    if (tally_fails(&run->tally, found == answer)) {
+    if (tally_fails(tally, found == answer)) {
         printf("instrument %" PRIu16 "\n", instrument);
         print_answer("reference", answer);
         print_answer("library", found);
     }
 }
 
-/* A refusal that no block has reached is a failure too. */
-static void print_reached(struct run *run)
+static void compare_case(struct trials *trials, uint64_t number)
 {
-    printf("%4s %9s\n", "n", "reached");
-    for (int n = 0; n < ANSWERS; n++) {
-        printf("%4d %9lu\n", n, run->reached[n]);
-        if (tally_fails(&run->tally, run->reached[n] > 0))
-            printf("FAILED answer %d was not reached\n", n);
-    }
+    static struct block block;
+    struct chance chance = case_chance(trials->seed, number);
+
+    trials->number = number;
+    generate_block(&chance, number, &block);
+    compare_judge(trials, &block);
+    compare_to_lines(trials, &chance, &block);
 }
 
-static void compare_all(struct run *run)
+static void compare_all(struct trials *trials, uint64_t cases)
 {
-    printf("seed %" PRIu64 ", %" PRIu64 " cases\n", run->seed, run->cases);
-    check_paper(&run->tally);
+    printf("seed %" PRIu64 ", %" PRIu64 " cases\n", trials->seed, cases);
+    check_paper(&trials->tally);
     for (uint32_t instrument = 0; instrument <= UINT16_MAX; instrument++)
-        compare_prefix(run, (uint16_t)instrument);
-    for (uint64_t number = 0; number < run->cases; number++)
-        compare_block(run, number, false);
-    print_reached(run);
-    printf("%lu passed, %lu failed\n", run->tally.passed, run->tally.failed);
+        compare_prefix(&trials->tally, (uint16_t)instrument);
+    for (uint64_t number = 0; number < cases; number++)
+        compare_case(trials, number);
+    print_reached(trials, &judge);
+    print_reached(trials, &to_lines);
+    printf("%lu passed, %lu failed\n", trials->tally.passed, trials->tally.failed);
 }
 
 int main(int argc, char **argv)
 {
-    static struct run run = {.seed = 1, .cases = 20000};
+    static struct trials trials = {.seed = 1};
+    uint64_t cases = 20000;
     const char *only = NULL;
     int option;
 
     while ((option = getopt(argc, argv, "s:n:c:")) != -1)
         switch (option) {
         case 's':
-            run.seed = strtoull(optarg, NULL, 10);
+            trials.seed = strtoull(optarg, NULL, 10);
             break;
         case 'n':
-            run.cases = strtoull(optarg, NULL, 10);
+            cases = strtoull(optarg, NULL, 10);
             break;
         case 'c':
             only = optarg;
@@ -157,10 +151,13 @@ int main(int argc, char **argv)
         default:
             return 2;
         }
-    run.guard = guard_open(BLOCK_ROOM);
+    draw_noise();
+    trials.shown = only != NULL;
+    trials.guards[0] = guard_open(BLOCK_ROOM);
+    trials.guards[1] = guard_open(TEXT_ROOM);
     if (only != NULL)
-        compare_block(&run, strtoull(only, NULL, 10), true);
+        compare_case(&trials, strtoull(only, NULL, 10));
     else
-        compare_all(&run);
-    return run.tally.failed > 0;
+        compare_all(&trials, cases);
+    return trials.tally.failed > 0;
 }

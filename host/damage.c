@@ -8,7 +8,7 @@ uint16_t telling_word(struct chance *chance)
 {
     static const uint16_t words[] = {
         0, 1, 2, 15, 16, 17, 18, 24, 39, 40, 41, 80, 120, 7960, 7998, 8000,
-        DATA, 1101, CATALOGUE, 2101, HEADER, 3101, 0x7fff, 0x8000, 0x8010, 0xffff,
+        DATA, DATA_IN_LINES, CATALOGUE, CATALOGUE_IN_LINES, HEADER, HEADER_IN_LINES, 0x7fff, 0x8000, 0x8010, 0xffff,
     };
 
     return one_in(chance, 2) ? PICK(chance, words) : (uint16_t)draw(chance);
@@ -34,12 +34,13 @@ static struct place choose(struct chance *chance, struct block *block, enum want
     struct place place = {NULL, 0, 0};
     size_t k = between(chance, 0, block->records - 1);
 
-    for (size_t i = 0; i < block->records && place.words == 0; i++, k = (k + 1) % block->records)
-        if (is_wanted(block->bytes + 2 * block->start[k], wanted)) {
-            place.record = block->bytes + 2 * block->start[k];
+    for (size_t i = 0; i < block->records && place.words == 0; i++, k = (k + 1) % block->records) {
+        place.record = block->bytes + bytes_of(block->start[k]);
+        if (is_wanted(place.record, wanted)) {
             place.words = block->start[k + 1] - block->start[k];
             place.left = block->start[block->records] - block->start[k];
         }
+    }
     return place;
 }
 
@@ -63,9 +64,9 @@ static void cut_words(struct chance *chance, struct block *block)
 static void change_kind(struct chance *chance, struct block *block)
 {
     static const uint16_t kinds[] = {
-        DATA,      1001, 1003, 1101, 0xea03, /* Data */
-        CATALOGUE, 2000, 2002, 2101, 0xd107, /* Catalogue */
-        HEADER,    3001, 3003, 3101, 0xba0b, /* Header */
+        DATA,      1001, 1003, DATA_IN_LINES,      0xea03, /* Data */
+        CATALOGUE, 2000, 2002, CATALOGUE_IN_LINES, 0xd107, /* Catalogue */
+        HEADER,    3001, 3003, HEADER_IN_LINES,    0xba0b, /* Header */
     };
     struct place place = choose(chance, block, ANY_RECORD);
 
@@ -126,12 +127,12 @@ static void spoil_card(struct chance *chance, struct block *block)
 {
     static const uint8_t bytes[] = {0, 9, 10, 13, 31, 127, 128, 160, 254, 255};
     struct place place = choose(chance, block, CATALOGUE_OR_HEADER);
-    size_t first = 2 * LINE_WORDS;
+    size_t first = bytes_of(LINE_WORDS);
 
     if (place.words <= LINE_WORDS)
         return;
     do {
-        size_t last = 2 * place.words - 1;
+        size_t last = bytes_of(place.words) - 1;
         size_t byte = one_in(chance, 8) ? first : one_in(chance, 8) ? last : between(chance, first, last);
 
         place.record[byte] = PICK(chance, bytes);
@@ -242,8 +243,8 @@ void damage_records(struct chance *chance, struct block *block)
 /* Row 1, and lengths that are right again when cut to 16 bits. */
 static void change_length(struct chance *chance, struct block *block)
 {
-    size_t about_least = between(chance, 0, 2 * BLOCK_LEAST + 3);
-    size_t about_most = between(chance, 2 * BLOCK_MOST - 3, 2 * BLOCK_MOST + 3);
+    size_t about_least = between(chance, 0, bytes_of(BLOCK_LEAST) + 3);
+    size_t about_most = between(chance, bytes_of(BLOCK_MOST) - 3, bytes_of(BLOCK_MOST) + 3);
     const size_t lengths[] = {
         about_least, about_most, block->length - 2, block->length - 1, block->length + 1, block->length + 2,
         0x10000 + block->length, 0x20000 + block->length,
@@ -256,7 +257,7 @@ static void change_length(struct chance *chance, struct block *block)
 static void change_first_word(struct chance *chance, struct block *block)
 {
     const size_t firsts[] = {
-        block->words - 1, block->words + 1, block->words - 2, 2 * block->words, block->words + 0x8000,
+        block->words - 1, block->words + 1, block->words - 2, bytes_of(block->words), block->words + 0x8000,
         block->words << 8, 0, telling_word(chance),
     };
 

@@ -1,19 +1,32 @@
 #include "generate.h"
 
-#include "chance.h"
 #include "damage.h"
 #include "words.h"
+
+/* Fields of every width, the narrowest and widest numbers of each most of all. */
+static uint16_t any_value(struct chance *chance)
+{
+    static const uint16_t limits[] = {0, 1, 9, 10, 99, 100, 999, 1000, 9999, 10000, 0x7fff, 0x8000};
+    uint16_t limit = PICK(chance, limits);
+    const uint16_t values[] = {limit, (uint16_t)-limit, (uint16_t)draw(chance), (uint16_t)(draw(chance) % 1000)};
+
+    return PICK(chance, values);
+}
 
 static void fill_words(struct chance *chance, uint8_t *record, size_t first, size_t last)
 {
     for (size_t number = first; number <= last; number++)
-        put_word(record, number, (uint16_t)draw(chance));
+        put_word(record, number, any_value(chance));
 }
 
-static void fill_cards(struct chance *chance, uint8_t *record, size_t words)
+/* Often with blanks at its ends, or with nothing else. */
+static void fill_card(struct chance *chance, uint8_t *card)
 {
-    for (size_t byte = 2 * LINE_WORDS; byte < 2 * words; byte++)
-        record[byte] = (uint8_t)between(chance, CARD_LEAST, CARD_MOST);
+    size_t end = one_in(chance, 2) ? CARD_COLUMNS : between(chance, 0, CARD_COLUMNS);
+    size_t start = one_in(chance, 2) ? 0 : between(chance, 0, CARD_COLUMNS);
+
+    for (size_t column = start; column < end; column++)
+        card[column] = (uint8_t)between(chance, CARD_LEAST, CARD_MOST);
 }
 
 /* Counts of a Data record of so many words; LPROL takes what the others leave. */
@@ -36,12 +49,15 @@ static struct counts counts_of(struct chance *chance, size_t words)
     return counts;
 }
 
-static void add_data(struct chance *chance, struct block *block, size_t words)
+static void fill_data(struct chance *chance, uint8_t *record)
 {
-    uint8_t *record = block_add_data(block, counts_of(chance, words));
-
     fill_words(chance, record, 3, LPROL - 1);
-    fill_words(chance, record, NROW + 1, words);
+    fill_words(chance, record, NROW + 1, word_at(record, 1));
+}
+
+static void add_data(struct chance *chance, struct block *block, struct counts counts)
+{
+    fill_data(chance, block_add_data(block, counts));
 }
 
 static void add_cards(struct chance *chance, struct block *block, size_t words)
@@ -50,7 +66,8 @@ static void add_cards(struct chance *chance, struct block *block, size_t words)
     uint8_t *record = block_add_cards(block, kind, words / LINE_WORDS - 1);
 
     fill_words(chance, record, 3, (kind == CATALOGUE ? CATALOGUE_ZERO : HEADER_ZERO) - 1);
-    fill_cards(chance, record, words);
+    for (size_t first = LINE_WORDS; first < words; first += LINE_WORDS)
+        fill_card(chance, record + bytes_of(first));
 }
 
 /* The words that a record of at most `most` takes of `left`, so that the rest is none or a record's. */
@@ -76,7 +93,7 @@ static void build(struct chance *chance, struct block *block, size_t words)
         if (share % LINE_WORDS == 0 && !one_in(chance, 8))
             add_cards(chance, block, share);
         else
-            add_data(chance, block, share);
+            add_data(chance, block, counts_of(chance, share));
     }
     block_close(block);
 }
@@ -93,15 +110,56 @@ static void build_any(struct chance *chance, struct block *block)
 /* A Catalogue or Header as large as chance wants it, up to 198 cards. */
 static void build_cards(struct chance *chance, struct block *block)
 {
+    static const size_t lines[] = {1, 2, 3, 199};
+
     block_begin(block);
-    add_cards(chance, block, LINE_WORDS * between(chance, 1, 199));
+    add_cards(chance, block, LINE_WORDS * (one_in(chance, 2) ? PICK(chance, lines) : between(chance, 1, 199)));
     block_close(block);
 }
 
-/* A block of about the least or the most words. */
+/* Fields of a part that ends about where a line does. */
+static size_t about_line(struct chance *chance, size_t least)
+{
+    size_t full = LINE_FIELDS * between(chance, 1, 4);
+
+    return one_in(chance, 2) ? between(chance, full - 1, full + 1) : between(chance, least, 65);
+}
+
+/* Counts for parts of every number of lines from 0 on; with 8 such records no block is too large. */
+static struct counts any_parts(struct chance *chance)
+{
+    static const size_t few[] = {0, 0, 1};
+    struct counts counts = {about_line(chance, PROLOGUE_LEAST), about_line(chance, 0), about_line(chance, 0), 0};
+
+    if (one_in(chance, 4))
+        counts.lprol = PROLOGUE_LEAST;
+    if (one_in(chance, 3))
+        counts.jpar = PICK(chance, few);
+    if (one_in(chance, 3))
+        counts.mpar = PICK(chance, few);
+    counts.nrow = between(chance, 0, counts.mpar > 1 ? 5 : 99);
+    return counts;
+}
+
+/* Records of any kinds, whose parts end about where lines do. */
+static void build_mixed(struct chance *chance, struct block *block)
+{
+    block_begin(block);
+    for (size_t records = between(chance, 1, 8); records > 0; records--)
+        if (one_in(chance, 3))
+            add_cards(chance, block, LINE_WORDS * between(chance, 1, 4));
+        else
+            add_data(chance, block, any_parts(chance));
+    block_close(block);
+}
+
+/* The block of the longest text, of about the most words, or of about the least. */
 static void build_limit(struct chance *chance, struct block *block)
 {
-    if (one_in(chance, 2)) {
+    if (one_in(chance, 20)) {
+        fill_data(chance, block_of_most_data(block));
+        block_seal(block);
+    } else if (one_in(chance, 2)) {
         build(chance, block, between(chance, BLOCK_MOST - 2, BLOCK_MOST + 2));
     } else {
         build(chance, block, BLOCK_LEAST);
@@ -163,21 +221,27 @@ static void build_bytes(struct chance *chance, struct block *block)
     block_begin(block);
     block_resize(block, between(chance, 1, one_in(chance, 8) ? BLOCK_MOST + 2 : 60));
     fill_words(chance, block->bytes, 1, block->words);
-    block->length = 2 * block->words - between(chance, 0, 2);
+    block->length = bytes_of(block->words) - between(chance, 0, 2);
     if (one_in(chance, 2))
-        put_word(block->bytes, 1, (uint16_t)(block->length / 2));
+        put_word(block->bytes, 1, (uint16_t)words_of(block->length));
 }
 
-void generate_block(uint64_t seed, uint64_t number, struct block *block)
+struct chance case_chance(uint64_t seed, uint64_t number)
 {
-    static void (*const recipes[])(struct chance *, struct block *) = {
-        build_any,    build_cards,       build_limit,       damage_once, damage_once, damage_twice,
-        damage_twice, damage_only_cards, damage_only_frame, damage_both, build_noise, build_bytes,
-    };
     struct chance chance = {seed};
 
     /* Mixed, so that neighbouring seeds and numbers share nothing. */
     chance.state = draw(&chance) + number;
     chance.state = draw(&chance);
-    recipes[number % (sizeof recipes / sizeof recipes[0])](&chance, block);
+    return chance;
+}
+
+void generate_block(struct chance *chance, uint64_t number, struct block *block)
+{
+    static void (*const recipes[])(struct chance *, struct block *) = {
+        build_any,    build_mixed,  build_cards,       build_limit,       damage_once, damage_once, build_mixed,
+        damage_twice, damage_twice, damage_only_cards, damage_only_frame, damage_both, build_noise, build_bytes,
+    };
+
+    recipes[number % (sizeof recipes / sizeof recipes[0])](chance, block);
 }

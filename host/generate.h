@@ -5,8 +5,12 @@
 #include <stdint.h>
 
 #include "blocks.h"
+#include "chance.h"
 
-/* The block of case `number`: the same for the same seed and number, whatever was generated before. */
-void generate_block(uint64_t seed, uint64_t number, struct block *block);
+/* The chance of a case: the same for the same seed and number, whatever was drawn before. */
+struct chance case_chance(uint64_t seed, uint64_t number);
+
+/* The block of a case, made with its chance. */
+void generate_block(struct chance *chance, uint64_t number, struct block *block);
 
 #endif

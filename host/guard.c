@@ -43,14 +43,24 @@ uint8_t *guard_place(struct guard guard, enum guard_end end, const uint8_t *buff
     return memcpy(copy_of(guard, end, length), buffer, length);
 }
 
-bool guard_kept(struct guard guard, enum guard_end end, const uint8_t *buffer, size_t length)
+static bool is_marked(const uint8_t *marks)
 {
-    const uint8_t *marks = marks_of(guard, end, length);
-
     for (size_t i = 0; i < MARKED; i++)
         if (marks[i] != MARK)
             return false;
-    return memcmp(copy_of(guard, end, length), buffer, length) == 0;
+    return true;
+}
+
+size_t guard_wrong(struct guard guard, enum guard_end end, const uint8_t *buffer, size_t length)
+{
+    const uint8_t *copy = copy_of(guard, end, length);
+    size_t byte = 0;
+
+    if (memcmp(copy, buffer, length) == 0)
+        return is_marked(marks_of(guard, end, length)) ? 0 : length + 1;
+    while (copy[byte] == buffer[byte])
+        byte++;
+    return byte + 1;
 }
 
 static sigjmp_buf before_call;

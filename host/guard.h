@@ -20,8 +20,8 @@ struct guard guard_open(size_t most);
 /* A copy of the buffer that meets the trap on one side and marked bytes on the other. */
 uint8_t *guard_place(struct guard guard, enum guard_end end, const uint8_t *buffer, size_t length);
 
-/* Whether the copy still is the buffer and the marks beside it stand. */
-bool guard_kept(struct guard guard, enum guard_end end, const uint8_t *buffer, size_t length);
+/* The number, from 1, of the first byte of the copy that is not the buffer's; past its last if a mark fell; else 0. */
+size_t guard_wrong(struct guard guard, enum guard_end end, const uint8_t *buffer, size_t length);
 
 /* Whether the call came back without a trap. */
 bool guard_run(void (*call)(void *), void *context);

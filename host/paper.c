@@ -8,17 +8,8 @@
 #include "reference.h"
 #include "words.h"
 
-enum { K_WORDS = 26, K_NROW = 1 + NROW, SMALLEST_WORDS = 18 };
-
-static const int k[K_WORDS] = {
-    26,  24,  1002, 30,  1,   1983, 508, 1422, 0,   1983, 508,    1422,   0,
-    16,  1,   2,    2,   540, 285,  110, 550,  250, 900,  300,    -32767, -32516,
-};
-
-/* Example 6. */
-static const int smallest[SMALLEST_WORDS] = {
-    18, 16, 1002, 30, 1, 1983, 508, 1422, 0, 1983, 508, 1422, 0, 16, 0, 0, 0, 999,
-};
+/* K's NROW as a word of the block. */
+enum { K_NROW = 1 + NROW };
 
 static void check(struct tally *tally, const char *what, bool holds)
 {
@@ -32,30 +23,139 @@ static void check_answer(struct tally *tally, const char *what, const struct blo
           cedar_judge(block->bytes, block->length) == answer && reference_judge(block->bytes, block->length) == answer);
 }
 
+typedef uint64_t to_lines(const uint8_t *, size_t, uint8_t *, size_t);
+
+/* Whether the call writes this text where there is just room for it, and asks for that room where a byte lacks. */
+static bool writes(to_lines *call, const struct block *block, const uint8_t *text, size_t length)
+{
+    static uint8_t written[CEDAR_TEXT_MOST];
+
+    memset(written, 0, sizeof written);
+    return call(block->bytes, block->length, written, length - 1) == pack(29, length, 0, 0) &&
+           call(block->bytes, block->length, written, length) == pack(0, length, 0, 0) &&
+           memcmp(written, text, length) == 0;
+}
+
+static void check_text(struct tally *tally, const char *what, const struct block *block, const uint8_t *text,
+                       size_t length)
+{
+    check(tally, what,
+          writes(cedar_to_lines, block, text, length) && writes(reference_to_lines, block, text, length));
+}
+
+/* A text of which only the length is given. */
+static void check_length(struct tally *tally, const char *what, const struct block *block, size_t length)
+{
+    static uint8_t text[CEDAR_TEXT_MOST];
+
+    reference_to_lines(block->bytes, block->length, text, sizeof text);
+    check_text(tally, what, block, text, length);
+}
+
+/* The number of bytes read: at most `room`, and 0 if there is no such file. */
+static size_t read_file(const char *name, uint8_t *bytes, size_t room)
+{
+    FILE *file = fopen(name, "rb");
+    size_t length = 0;
+
+    if (file != NULL) {
+        length = fread(bytes, 1, room, file);
+        fclose(file);
+    }
+    return length;
+}
+
 static void check_file(struct tally *tally, const char *name, const struct block *block)
 {
-    static uint8_t bytes[2 * K_WORDS + 1];
-    FILE *file = fopen(name, "rb");
-    size_t length = file == NULL ? 0 : fread(bytes, 1, sizeof bytes, file);
+    static uint8_t bytes[BLOCK_ROOM];
+    size_t length = read_file(name, bytes, sizeof bytes);
 
     check(tally, name, length == block->length && memcmp(bytes, block->bytes, length) == 0);
-    if (file != NULL)
-        fclose(file);
+}
+
+static size_t lines_in(const uint8_t *text, size_t length)
+{
+    size_t lines = 0;
+
+    for (size_t i = 0; i < length; i++)
+        lines += text[i] == '\n';
+    return lines;
+}
+
+/* NAME.block must be accepted, with one record, and NAME.lines be its text, of so many lines. */
+static void check_shipped(struct tally *tally, const char *name, size_t lines)
+{
+    static struct block block;
+    static uint8_t text[CEDAR_TEXT_MOST];
+    char block_name[64], lines_name[64];
+    size_t length;
+
+    snprintf(block_name, sizeof block_name, "example/%s.block", name);
+    snprintf(lines_name, sizeof lines_name, "example/%s.lines", name);
+    block.length = read_file(block_name, block.bytes, sizeof block.bytes);
+    length = read_file(lines_name, text, sizeof text);
+    check_answer(tally, block_name, &block, pack(0, 1, 0, 0));
+    if (lines_in(text, length) == lines)
+        check_text(tally, lines_name, &block, text, length);
+    else
+        check(tally, lines_name, false);
+}
+
+/*
+ * K, and the records of Tables 2, 5 and 7 in document 000. What their print breaks or leaves open was chosen so:
+ *   Numbers end in the last column of their field; a description begins one column after its field does.
+ *   Each keyword is a card, also without text. A dot, for cards left out, is a card of blanks.
+ *   The spelling is the print's. What it cuts off was guessed.
+ *   Table 2: "Data above", "Inco-", "Fabry-Per-", "Satellite pa-", "Substorm", "Sudden co-", "Experi-" and "S-hort".
+ *   Table 5: "-eters have the value -32767", "Assumed parameters hav-", "-och 1983", "-n is taken from a model",
+ *   "The neutral atmosphere mod-", "Collision freq-", "MSIS 1983" on the card CCOLL, and "(Names of pers-".
+ *   DRWDNO 5 to 11 stand beside the times, as the printed 12 does.
+ *   The card KRECH says 3002 in the lines too, since cards are the same in both forms.
+ *   Data: Table 7 prints no values, so this is a record that the Header describes; values and ending time were made up.
+ */
+static void check_examples(struct tally *tally)
+{
+    check_shipped(tally, "k", 6);
+    check_shipped(tally, "catalogue", 40);
+    check_shipped(tally, "header", 47);
+    check_shipped(tally, "data", 7);
 }
 
 static void check_k(struct tally *tally)
 {
     static struct block block;
 
-    block_of(&block, k, K_WORDS);
+    block_of_k(&block);
     check_answer(tally, "example 1", &block, pack(0, 1, 0, 0));
+    check_length(tally, "example 1, text", &block, 150);
     check_file(tally, "example/k.block", &block);
-    put_word(block.bytes, K_WORDS, (uint16_t)-32515);
+    put_word(block.bytes, block.words, (uint16_t)-32515);
     check_answer(tally, "example 2", &block, pack(3, 0, 0, 1));
     put_word(block.bytes, K_NROW, 1);
     block_seal(&block);
     check_answer(tally, "example 8", &block, pack(9, 1, 1, 0));
     check_file(tally, "example/k-damaged.block", &block);
+}
+
+static void check_smallest(struct tally *tally)
+{
+    static const int words[] = {18, 16, 1002, 30, 1, 1983, 508, 1422, 0, 1983, 508, 1422, 0, 16, 0, 0, 0, 999};
+    static struct block block;
+
+    block_of(&block, words, sizeof words / sizeof words[0]);
+    check_answer(tally, "example 6", &block, pack(0, 1, 0, 0));
+}
+
+static void check_largest(struct tally *tally)
+{
+    static struct block block;
+
+    block_of_most_data(&block);
+    check_answer(tally, "the most Data words", &block, pack(0, 1, 0, 0));
+    check_length(tally, "the longest text", &block, CEDAR_TEXT_MOST);
+    block_of_most_cards(&block);
+    check_answer(tally, "example 9, Catalogue of 199 lines", &block, pack(0, 1, 0, 0));
+    check_length(tally, "text of a Catalogue of 199 lines", &block, 121 + 198 * 81);
 }
 
 static void check_prefix(struct tally *tally, uint16_t instrument, const char *letters)
@@ -67,15 +167,10 @@ static void check_prefix(struct tally *tally, uint16_t instrument, const char *l
 
 void check_paper(struct tally *tally)
 {
-    static struct block block;
-
     check_k(tally);
-    block_of(&block, smallest, SMALLEST_WORDS);
-    check_answer(tally, "example 6", &block, pack(0, 1, 0, 0));
-    block_of_most_data(&block);
-    check_answer(tally, "the most Data words", &block, pack(0, 1, 0, 0));
-    block_of_most_cards(&block);
-    check_answer(tally, "example 9, Catalogue of 199 lines", &block, pack(0, 1, 0, 0));
+    check_smallest(tally);
+    check_largest(tally);
+    check_examples(tally);
     check_prefix(tally, 30, "MLH");
     check_prefix(tally, 5140, "AQF");
     check_prefix(tally, 7240, "---");

@@ -11,6 +11,7 @@ static inline uint64_t pack(uint64_t n, uint64_t a, uint64_t b, uint64_t c)
 }
 
 uint64_t reference_judge(const uint8_t *block, size_t length);
+uint64_t reference_to_lines(const uint8_t *block, size_t block_length, uint8_t *text, size_t text_length);
 uint64_t reference_prefix(uint16_t instrument);
 
 #endif

@@ -5,16 +5,29 @@
 #include <stddef.h>
 #include <stdint.h>
 
+enum { WORD_BYTES = 2 };
+
+static inline size_t bytes_of(size_t words)
+{
+    return WORD_BYTES * words;
+}
+
+/* Whole words only: an odd byte is in none. */
+static inline size_t words_of(size_t bytes)
+{
+    return bytes / WORD_BYTES;
+}
+
 static inline uint16_t word_at(const uint8_t *bytes, size_t number)
 {
-    const uint8_t *word = bytes + 2 * (number - 1);
+    const uint8_t *word = bytes + bytes_of(number - 1);
 
     return (uint16_t)(word[0] << 8 | word[1]);
 }
 
 static inline void put_word(uint8_t *bytes, size_t number, uint16_t value)
 {
-    uint8_t *word = bytes + 2 * (number - 1);
+    uint8_t *word = bytes + bytes_of(number - 1);
 
     word[0] = (uint8_t)(value >> 8);
     word[1] = (uint8_t)value;

@@ -1,18 +1,19 @@
 /*
  * cedar.h: the C calls of Nalungkep, a proved converter for CEDAR radar data.
  *
- * The library judges binary blocks of the CEDAR database format and finds instruments' prefixes.
+ * The library judges binary blocks of the CEDAR database format, writes their lines and finds instruments' prefixes.
  * It is proved, for every input, to answer as written here.
  * Link x86-64 programs with libcedar.a; it needs no other library.
  *
  * Every call
  *   keeps no state and needs no set-up;
  *   is safe on any bytes;
- *   reads no byte outside of the buffers lent to it;
+ *   reads no byte outside of the buffers lent to it, and writes none outside of those that are not `const`;
  *   leaves every buffer unchanged when it refuses.
  *
- * The caller answers for two things.
- *   A buffer has as many readable bytes as its length says; for length 0 any pointer but NULL will do.
+ * The caller answers for the buffers.
+ *   A buffer has as many bytes as its length says, and all may be written if it is not `const`.
+ *   For length 0 any pointer but NULL will do.
  *   Buffers lent to one call do not overlap.
  *
  * A block
@@ -29,7 +30,17 @@
  *   Header: as Catalogue, but words 13 to 15 may have any values.
  *   A card is 80 bytes, each from 32 to 126.
  *   Data: words 13 to 16 are the counts LPROL (at least 16), JPAR, MPAR and NROW (at least 0).
- *   Data: LTOT is LPROL + 2 JPAR + MPAR (NROW + 1); words 17 on may have any values.
+ *   Data: after the prologue, words 1 to LPROL, stand JPAR codes, JPAR values, MPAR codes and NROW rows of MPAR values.
+ *   Data: so LTOT is LPROL + 2 JPAR + MPAR (NROW + 1); words 17 on may have any values.
+ *
+ * Lines
+ *   are the same records in characters, in the same order. Each line ends with LF.
+ *   A number is a field of six columns: blanks, a minus if it is negative, its digits without leading zeros.
+ *   Field 1 of a record is the count of its lines; field 2 is the kind: 2101 Catalogue, 3101 Header, 1101 Data.
+ *   The further fields are the record's words from word 3 on.
+ *   Catalogue, Header: a line of 20 fields, then each card as a line of all its 80 bytes.
+ *   Data: the prologue, the JPAR codes, the JPAR values, the MPAR codes and each row begin on a new line.
+ *   Data: each of these has 20 fields a line, what is left of them on its last line, and no line if it has no fields.
  *
  * An answer
  *   is four numbers n, a, b, c in one: 2^56 n + 2^32 a + 2^16 b + c.
@@ -73,6 +84,23 @@ static inline uint32_t cedar_c(uint64_t answer) { return (uint32_t)answer & 0xff
  * Where several places are wrong in the same way, b is the first of them.
  */
 uint64_t cedar_judge(const uint8_t *block, size_t length);
+
+/* Bytes that suffice for the lines of any block. */
+enum { CEDAR_TEXT_MOST = 55971 };
+
+/*
+ * Writes the lines of the block in the `block_length` bytes at `block`, which must be exactly one block, to `text`.
+ * The text has room for `text_length` bytes.
+ *
+ *   n       given when                                     a               b               c
+ *   0       the lines are written                          bytes written
+ *   1 to 9  cedar_judge refuses the block                  as there        as there        as there
+ *   29      text_length is less than the lines need        bytes needed
+ *
+ * Tried in this order: 1 to 9, then 29; so a call with text_length 0 asks how many bytes an accepted block needs.
+ * Bytes of the text past those written stay as they are: no NUL is added.
+ */
+uint64_t cedar_to_lines(const uint8_t *block, size_t block_length, uint8_t *text, size_t text_length);
 
 /*
  * Finds the data volume prefix of an instrument, given as word 3 of its records, 0 to 65,535.

@@ -1,0 +1,111 @@
+#include "trial.h"
+
+#include <inttypes.h>
+#include <stdio.h>
+
+#include "cedar.h"
+
+/* What came of a call at one end of the guards. */
+struct outcome {
+    const struct trial *trial;
+    bool returned;
+    uint64_t answer;
+    size_t wrong[LENT_MOST]; /* for each buffer, as guard_wrong tells it */
+    uint8_t left[LENT_MOST]; /* the byte there */
+};
+
+static void make_call(void *context)
+{
+    struct outcome *outcome = context;
+
+    outcome->answer = outcome->trial->call->make(outcome->trial->lent);
+}
+
+static struct outcome outcome_at(enum guard_end end, const struct guard *guards, struct trial *trial)
+{
+    struct outcome outcome = {trial, false, 0, {0}, {0}};
+    struct lent *lent = trial->lent;
+
+    for (size_t i = 0; i < trial->call->buffers; i++)
+        lent[i].copy = guard_place(guards[i], end, lent[i].before, lent[i].length);
+    outcome.returned = guard_run(make_call, &outcome);
+    for (size_t i = 0; i < trial->call->buffers; i++) {
+        outcome.wrong[i] = guard_wrong(guards[i], end, lent[i].after, lent[i].length);
+        if (outcome.wrong[i] > 0 && outcome.wrong[i] <= lent[i].length)
+            outcome.left[i] = lent[i].copy[outcome.wrong[i] - 1];
+    }
+    return outcome;
+}
+
+static bool is_right(const struct outcome *outcome)
+{
+    bool right = outcome->returned && outcome->answer == outcome->trial->answer;
+
+    for (size_t i = 0; i < LENT_MOST; i++)
+        right = right && outcome->wrong[i] == 0;
+    return right;
+}
+
+void print_answer(const char *whose, uint64_t answer)
+{
+    printf("  %s %" PRIu32 " %" PRIu32 " %" PRIu32 " %" PRIu32 "\n", whose, cedar_n(answer), cedar_a(answer),
+           cedar_b(answer), cedar_c(answer));
+}
+
+static void print_outcome(const struct outcome *outcome)
+{
+    if (outcome->returned)
+        print_answer("library", outcome->answer);
+    else
+        printf("  library trapped outside of its buffers\n");
+    for (size_t i = 0; i < LENT_MOST; i++) {
+        const struct lent *lent = &outcome->trial->lent[i];
+        size_t wrong = outcome->wrong[i];
+
+        if (wrong > lent->length)
+            printf("  library changed bytes beside the %s\n", lent->name);
+        else if (wrong > 0)
+            printf("  library left %02x for %02x in byte %zu of the %s\n", outcome->left[i], lent->after[wrong - 1],
+                   wrong, lent->name);
+    }
+}
+
+/* With its first bytes, if the call only reads it. */
+static void print_lent(const struct lent *lent)
+{
+    enum { SHOWN = 96, A_LINE = 32 };
+    size_t shown = lent->before != lent->after ? 0 : lent->length < SHOWN ? lent->length : SHOWN;
+
+    printf("  %s, %zu bytes", lent->name, lent->length);
+    for (size_t i = 0; i < shown; i++)
+        printf("%s%02x", i % A_LINE == 0 ? "\n    " : " ", lent->before[i]);
+    printf("\n");
+}
+
+void try_call(struct trials *trials, struct trial *trial)
+{
+    struct outcome first = outcome_at(AT_START, trials->guards, trial);
+    struct outcome second = outcome_at(AT_END, trials->guards, trial);
+
+    trial->call->reached[cedar_n(trial->answer)]++;
+    if (!tally_fails(&trials->tally, is_right(&first) && is_right(&second)) && !trials->shown)
+        return;
+    printf("case -s %" PRIu64 " -c %" PRIu64 ", %s\n", trials->seed, trials->number, trial->call->name);
+    for (size_t i = 0; i < trial->call->buffers; i++)
+        print_lent(&trial->lent[i]);
+    print_answer("reference", trial->answer);
+    print_outcome(&first);
+    print_outcome(&second);
+}
+
+void print_reached(struct trials *trials, const struct call *call)
+{
+    printf("%-8s %4s %9s\n", call->name, "n", "reached");
+    for (int n = 0; n < ANSWERS; n++) {
+        if ((call->gives >> n & 1) == 0)
+            continue;
+        printf("%-8s %4d %9lu\n", "", n, call->reached[n]);
+        if (tally_fails(&trials->tally, call->reached[n] > 0))
+            printf("FAILED answer %d of %s was not reached\n", n, call->name);
+    }
+}
