@@ -8,19 +8,16 @@ use Rattle.record.specs.Lines.{lineCount}
 use Rattle.block.specs.Records.{cut, recordsOf}
 use Rattle.field.specs.Writing.{decimal, fieldOf}
 use Rattle.lines.specs.Lines.{fieldsOf, part, times, plan, laid, linesOf}
-use Rattle.lines.specs.Text.{ended, textOf}
+use Rattle.words.specs.Outcomes.{written}
+use Rattle.lines.specs.Text.{ended, textOf, toLines}
 use Rattle.prefix.specs.LookUp.{beside}
 use Rattle.prefix.specs.Table.{table}
-use Rattle.demands.specs.Examples.{judgeRows, blockK, blockLeast, JudgeRows, prefixRows, PrefixRows, TextOfK}
+use Rattle.demands.specs.Examples.{blockRows, blockK, blockLeast, BlockRows, prefixRows, PrefixRows}
 
-pub judge-rows : JudgeRows
-unfolding judgeRows blockK blockLeast judged wrongSize walk judgeRecord judgeCards judgeData judgeCounts wrongTotal underLeast firstNotZero firstNotCard passing wordWithin wordsOf bytesOf xorAll ones onesIn
-judge-rows = refl
+pub block-rows : BlockRows
+unfolding blockRows blockK blockLeast judged wrongSize walk judgeRecord judgeCards judgeData judgeCounts wrongTotal underLeast firstNotZero firstNotCard passing wordWithin wordsOf bytesOf xorAll ones onesIn recordsOf cut toLines written textOf ended linesOf laid plan part times fieldsOf fieldOf decimal lineCount
+block-rows = refl
 
 pub prefix-rows : PrefixRows
 unfolding prefixRows table beside
 prefix-rows = refl
-
-pub text-of-k : TextOfK
-unfolding blockK bytesOf wordsOf recordsOf cut textOf ended linesOf laid plan part times fieldsOf fieldOf decimal lineCount
-text-of-k = (refl, refl)

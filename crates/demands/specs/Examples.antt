@@ -1,15 +1,15 @@
--- Document 01, "Examples": the rows marked P that speak of judging, and prefixes, each sort as one table.
+-- Document 01, "Examples": the rows marked P that speak of blocks and their lines, and prefixes, each sort as one table.
 use Prim.Native.Nat.{ℕ}
 use Prim.Native.String.{String}
 use mathlib.Core.Path.{_≡_}
 use mathlib.Core.List.{List, [], _∷_, map}
 use Rattle.units.specs.declared.Answer.{Answer}
-use Rattle.units.specs.Answers.{answer}
+use Rattle.units.specs.Answers.{answer, Verdict, passed, refused}
 use Rattle.words.specs.Words.{bytesOf}
-use lib.ListN.{length}
 use Rattle.record.specs.Lines.{lineCount}
+use Rattle.block.specs.Judging.{judged}
 use Rattle.block.specs.Records.{recordsOf}
-use Rattle.lines.specs.Text.{textOf}
+use Rattle.lines.specs.Text.{toLines}
 use Rattle.prefix.specs.Table.{letters, prefixOf}
 use Rattle.cedar.specs.Calls.{judgeAnswer}
 
@@ -23,24 +23,37 @@ blockK nrow checksum =
 unfoldable pub blockLeast : ℕ → List ℕ
 blockLeast checksum = 18 ∷ 16 ∷ 1002 ∷ 30 ∷ 1 ∷ 1983 ∷ 508 ∷ 1422 ∷ 0 ∷ 1983 ∷ 508 ∷ 1422 ∷ 0 ∷ 16 ∷ 0 ∷ 0 ∷ 0 ∷ checksum ∷ []
 
--- a block's words, and the judge's answer to its bytes
+-- what is found of a block: the judge's answer, the answer of block to lines into no room at all, and each record's lines
+pub record Found : Type 0 where
+  pub judged-as : Answer
+  pub lined-as : Answer
+  pub lines : List ℕ
+
+abbrev pub linesFound : List (List ℕ) → Verdict ℕ → List ℕ
+linesFound rs (passed k) = map lineCount rs
+linesFound rs (refused r) = []
+
+abbrev pub foundOf : List ℕ → Found
+foundOf b = record { judged-as = judgeAnswer b; lined-as = toLines b [] .answer; lines = linesFound (recordsOf b) (judged b) }
+
+-- a block's words, and what is found of its bytes
 pub record Row : Type 0 where
   pub block : List ℕ
-  pub answered : Answer
+  pub found : Found
 
--- examples 1, 2, 6 and 8: -32516 is the word 33020, and one bit off is 33021; with NROW 1 it is 33023
-unfoldable pub judgeRows : List Row
+-- examples 1, 2, 6 and 8: -32516 is the word 33020, and one bit off is 33021; with NROW 1 it is 33023; K's "text is 6 lines, 150 bytes"
+unfoldable pub blockRows : List Row
 unfolding blockK blockLeast
-judgeRows =
-    record { block = blockK 2 33020; answered = answer 0 1 0 0 }
-    ∷ record { block = blockK 2 33021; answered = answer 3 0 0 1 }
-    ∷ record { block = blockLeast 999; answered = answer 0 1 0 0 }
-    ∷ record { block = blockK 1 33023; answered = answer 9 1 1 0 }
+blockRows =
+    record { block = blockK 2 33020; found = record { judged-as = answer 0 1 0 0; lined-as = answer 29 150 0 0; lines = 6 ∷ [] } }
+    ∷ record { block = blockK 2 33021; found = record { judged-as = answer 3 0 0 1; lined-as = answer 3 0 0 1; lines = [] } }
+    ∷ record { block = blockLeast 999; found = record { judged-as = answer 0 1 0 0; lined-as = answer 29 97 0 0; lines = 1 ∷ [] } }
+    ∷ record { block = blockK 1 33023; found = record { judged-as = answer 9 1 1 0; lined-as = answer 9 1 1 0; lines = [] } }
     ∷ []
 
--- the rows are what the judge answers
-abbrev pub JudgeRows : Type 0
-JudgeRows = map (λ r. judgeAnswer (bytesOf (r .block))) judgeRows ≡ map (λ r. r .answered) judgeRows
+-- the rows are what is found
+abbrev pub BlockRows : Type 0
+BlockRows = map (λ r. foundOf (bytesOf (r .block))) blockRows ≡ map (λ r. r .found) blockRows
 
 -- "MLH" of the listing's example; "5140 is AQF"; "7240 has no prefix. It and every unlisted code answer "---""
 unfoldable pub prefixRows : List (ℕ × String)
@@ -48,7 +61,3 @@ prefixRows = (30, "MLH") ∷ (5140, "AQF") ∷ (7240, "---") ∷ (0, "---") ∷ 
 
 abbrev pub PrefixRows : Type 0
 PrefixRows = map (λ e. prefixOf (e .0)) prefixRows ≡ map (λ e. letters (e .1)) prefixRows
-
--- example 1: K's "text is 6 lines, 150 bytes"
-abbrev pub TextOfK : Type 0
-TextOfK = let rs = recordsOf (bytesOf (blockK 2 33020)) in (length (textOf rs) ≡ 150) × (map lineCount rs ≡ 6 ∷ [])

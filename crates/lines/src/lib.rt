@@ -111,22 +111,6 @@ fn write_rows(
     to
 }
 
-// Copies all of `from`.
-fn copy(from: &[u8], out: &mut [u8], at: Bytes) -> Bytes
-    requires { ⌜ Room (now out) (at .0) (now from) ⌝ }
-    ensures { λ r. ⌜ Put (now (out .entry)) (at .0) (now (from .entry)) (now (out .exit)) (r .0) ⌝ }
-{
-    let end = from.len();
-    let mut i = 0;
-    let mut to = at.0;
-    while i < end {
-        out[to] = from[i];
-        i += 1;
-        to += 1;
-    }
-    Bytes(to)
-}
-
 // Writes so many cards from place `from` on, each a line of 80 columns.
 fn write_cards(whole: &[u8], from: Words, cards: Lines, out: &mut [u8], at: Bytes) -> Bytes
     requires { ⌜ (from .0 + cards .0 * 40 ≤ length (wordsOf (now whole))) × Room (now out) (at .0) (ended (cardLines (cards .0) (drop (from .0) (wordsOf (now whole))))) ⌝ }
@@ -137,7 +121,7 @@ fn write_cards(whole: &[u8], from: Words, cards: Lines, out: &mut [u8], at: Byte
     let mut to = at.0;
     while 0 < left {
         let next = place + 40;
-        let end = copy(
+        let end = report::write_text(
             words::part(whole, Words(place), Words(next)),
             out,
             Bytes(to),

@@ -38,11 +38,11 @@ turn c =
     ∙ ap (λ t. t ++ (10 ∷ others c)) (sym (c .part .ensures ∙ card-bytes b (l .place) h (omega (arith, length-wordsOf b))))
 
 -- the card is in, and its LF is left
-going : (c : tie.After-copy Inv-loop μ-loop) → let s = c .before .before .before .before .before .before .before in let ws = wordsOf (now (s .args .whole)) in
-    Going (now (s .args .out)) (s .args .at .0) (ended (cardLines (s .args .cards .0) (drop (s .args .from .0) ws))) (c .copy .last .1 .0) (c .copy .result .0) (10 ∷ others (c .before .before))
-going c = on (c .before .before .before .before .loop .inv .1) _ _ (turn (c .before .before)) (c .copy .ensures)
+going : (c : tie.After-write-text Inv-loop μ-loop) → let s = c .before .before .before .before .before .before .before in let ws = wordsOf (now (s .args .whole)) in
+    Going (now (s .args .out)) (s .args .at .0) (ended (cardLines (s .args .cards .0) (drop (s .args .from .0) ws))) (c .write-text .last .1 .0) (c .write-text .result .0) (10 ∷ others (c .before .before))
+going c = on (c .before .before .before .before .loop .inv .1) _ _ (turn (c .before .before)) (c .write-text .ensures)
 
-end-room : (c : tie.After-copy Inv-loop μ-loop) → c .copy .result .0 + 1 ≤ length (c .copy .last .1 .0)
+end-room : (c : tie.After-write-text Inv-loop μ-loop) → c .write-text .result .0 + 1 ≤ length (c .write-text .last .1 .0)
 end-room c = fits (going c) (10 ∷ []) (others (c .before .before)) refl (c .before .before .before .before .before .before .before .pre .1)
 
 loop-holds : tie.Need-loop-holds Inv-loop μ-loop
@@ -54,8 +54,8 @@ add-next c = let r = room c in omega (arith, length-wordsOf (now (c .before .bef
 part-requires : tie.Need-part-requires Inv-loop μ-loop
 part-requires c κs = let r = room c in (omega arith, r .0)
 
-copy-requires : tie.Need-copy-requires Inv-loop μ-loop
-copy-requires c κs = fits (c .before .before .before .loop .inv .1) (now (c .before .part .result)) (10 ∷ others (c .before)) (turn (c .before)) (c .before .before .before .before .before .before .pre .1)
+write-text-requires : tie.Need-write-text-requires Inv-loop μ-loop
+write-text-requires c κs = fits (c .before .before .before .loop .inv .1) (now (c .before .part .result)) (10 ∷ others (c .before)) (turn (c .before)) (c .before .before .before .before .before .before .pre .1)
 
 slice-write-out : tie.Need-slice-write-out Inv-loop μ-loop
 slice-write-out c = omega (arith, end-room (c .before .before))
@@ -87,7 +87,7 @@ write-cards-spec =
     loop-holds
     add-next
     part-requires
-    copy-requires
+    write-text-requires
     slice-write-out
     add-to
     sub-left
