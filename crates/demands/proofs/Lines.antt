@@ -11,6 +11,7 @@ use lib.ListN.{length, getD, take, drop, set, replicate, length-append, length-t
 use lib.Seq.{sets, sets-eq, drop-length, set-append-left, set-getD, getD-set-other, take-set-le, take-set-lt, drop-set-lt, drop-set-add, length-take-le}
 use Rattle.units.specs.Choice.{if_then_else_}
 use Rattle.words.specs.Words.{word, bytesOf, All}
+use Rattle.words.proofs.Lists.{all-append}
 use Rattle.words.proofs.Laws.{length-bytesOf}
 use Rattle.words.proofs.Writing.{sets-append}
 use Rattle.record.specs.Lines.{lineCount}
@@ -31,11 +32,6 @@ pub text-most : TextBound
 text-most = text-bound
 
 -- ---- widths
-
-module _ {A : Type 0} (P : A → Type 0) where
-  all-append : (xs ys : List A) → All P xs → All P ys → All P (xs ++ ys)
-  all-append [] ys h k = k
-  all-append (x ∷ xs) ys h k = (h .0, all-append xs ys (h .1) k)
 
 Narrow : ℕ → Type 0
 Narrow n = n ≤ 20

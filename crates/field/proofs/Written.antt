@@ -8,6 +8,7 @@ use lib.ListN.{length, getD, replicate, length-append, length-replicate}
 use lib.Seq.{getD-at}
 use Rattle.units.specs.Choice.{if_then_else_}
 use Rattle.words.specs.Words.{All}
+use Rattle.words.proofs.Lists.{all-append}
 use Rattle.field.specs.Writing.{digit, decimal, magnitudeOf, signOf, blanks, fieldOf, FieldByte, blank, minus, figure}
 use Rattle.field.proofs.Choice.{both-ways}
 use Rattle.field.proofs.Digits.{length-decimal}
@@ -24,10 +25,6 @@ module _ (w : ℕ) where
   length-fieldOf = rw (length-append (blanks (6 - length number)) number, length-replicate) (omega (arith, length-number))
 
 module _ {A : Type 0} (P : A → Type 0) where
-  all-append : (xs ys : List A) → All P xs → All P ys → All P (xs ++ ys)
-  all-append [] ys h k = k
-  all-append (x ∷ xs) ys h k = (h .0, all-append xs ys (h .1) k)
-
   all-replicate : (n : ℕ) (a : A) → P a → All P (replicate n a)
   all-replicate zero a h = tt
   all-replicate (suc n) a h = (h, all-replicate n a h)

@@ -34,49 +34,34 @@ length-part n = length-append (full (n / 20)) (shorter (n % 20)) ∙ by (n % 20)
     by zero e = omega (arith, length-replicate {A = ℕ} (n / 20) 20)
     by (suc r) e = omega (arith, length-replicate {A = ℕ} (n / 20) 20)
 
-length-times : (k : ℕ) (ns : List ℕ) → length (times k ns) ≡ k * length ns
-unfolding times
-length-times zero ns = omega arith
-length-times (suc k) ns = omega (arith, length-append ns (times k ns), length-times k ns, suc-mul k (length ns))
+-- any count that adds up over lines, and is known of a part, over a plan
+module _ (count : List ℕ → ℕ) (each : ℕ → ℕ) (none : count [] ≡ 0) (adds : (ns ms : List ℕ) → count (ns ++ ms) ≡ count ns + count ms) (of-part : (n : ℕ) → count (part n) ≡ each n) where
+  over-times : (k n : ℕ) → count (times k (part n)) ≡ k * each n
+  unfolding times
+  over-times zero n = omega (arith, none)
+  over-times (suc k) n = omega (arith, adds (part n) (times k (part n)), of-part n, over-times k n, suc-mul k (each n))
 
-fieldsIn-times : (k : ℕ) (ns : List ℕ) → fieldsIn (times k ns) ≡ k * fieldsIn ns
-unfolding times fieldsIn
-fieldsIn-times zero ns = omega arith
-fieldsIn-times (suc k) ns = omega (arith, fieldsIn-append ns (times k ns), fieldsIn-times k ns, suc-mul k (fieldsIn ns))
-
-module _ (lprol jpar mpar nrow : ℕ) where
-  abbrev rows : List ℕ
-  rows = times (nrow + 1) (part mpar)
-
-  pub length-plan : length (plan lprol jpar mpar nrow) ≡ linesNeeded lprol jpar mpar nrow
+  over-plan : (lprol jpar mpar nrow : ℕ) → count (plan lprol jpar mpar nrow) ≡ each lprol + 2 * each jpar + each mpar * (nrow + 1)
   unfolding plan
-  length-plan =
+  over-plan lprol jpar mpar nrow =
+      let rows = times (nrow + 1) (part mpar) in
       omega (
         arith,
-        length-append (part lprol) (part jpar ++ (part jpar ++ rows)),
-        length-append (part jpar) (part jpar ++ rows),
-        length-append (part jpar) rows,
-        length-times (nrow + 1) (part mpar),
-        ap (λ k. (nrow + 1) * k) (length-part mpar),
-        mul-comm (nrow + 1) (linesOfFields mpar),
-        length-part lprol,
-        length-part jpar,
+        adds (part lprol) (part jpar ++ (part jpar ++ rows)),
+        adds (part jpar) (part jpar ++ rows),
+        adds (part jpar) rows,
+        of-part lprol,
+        of-part jpar,
+        over-times (nrow + 1) mpar,
+        mul-comm (nrow + 1) (each mpar),
       )
 
-  pub fieldsIn-plan : fieldsIn (plan lprol jpar mpar nrow) ≡ wordsNeeded lprol jpar mpar nrow
-  unfolding plan
-  fieldsIn-plan =
-      omega (
-        arith,
-        fieldsIn-append (part lprol) (part jpar ++ (part jpar ++ rows)),
-        fieldsIn-append (part jpar) (part jpar ++ rows),
-        fieldsIn-append (part jpar) rows,
-        fieldsIn-times (nrow + 1) (part mpar),
-        ap (λ k. (nrow + 1) * k) (fieldsIn-part mpar),
-        mul-comm (nrow + 1) mpar,
-        fieldsIn-part lprol,
-        fieldsIn-part jpar,
-      )
+pub length-plan : (lprol jpar mpar nrow : ℕ) → length (plan lprol jpar mpar nrow) ≡ linesNeeded lprol jpar mpar nrow
+length-plan = over-plan length linesOfFields refl length-append length-part
+
+pub fieldsIn-plan : (lprol jpar mpar nrow : ℕ) → fieldsIn (plan lprol jpar mpar nrow) ≡ wordsNeeded lprol jpar mpar nrow
+unfolding fieldsIn
+fieldsIn-plan = over-plan fieldsIn (λ n. n) refl fieldsIn-append fieldsIn-part
 
 length-laid : (ns ws : List ℕ) → length (laid ns ws) ≡ length ns
 unfolding laid
