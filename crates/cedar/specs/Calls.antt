@@ -20,6 +20,7 @@ pub record Returned : Type 0 where
   pub number : ℕ
   pub out : List ℕ
 
+-- a number returned and the output as it is then
 abbrev pub returned : ℕ → List ℕ → Returned
 returned number out = record { number = number; out = out }
 

@@ -29,10 +29,12 @@ pub record Found : Type 0 where
   pub lined-as : Answer
   pub lines : List ℕ
 
+-- the line count of each record of an accepted block
 abbrev pub linesFound : List (List ℕ) → Verdict ℕ → List ℕ
 linesFound rs (passed k) = map lineCount rs
 linesFound rs (refused r) = []
 
+-- what the definitions find of these bytes
 abbrev pub foundOf : List ℕ → Found
 foundOf b = record { judged-as = judgeAnswer b; lined-as = toLines b [] .answer; lines = linesFound (recordsOf b) (judged b) }
 
@@ -59,5 +61,6 @@ BlockRows = map (λ r. foundOf (bytesOf (r .block))) blockRows ≡ map (λ r. r 
 unfoldable pub prefixRows : List (ℕ × String)
 prefixRows = (30, "MLH") ∷ (5140, "AQF") ∷ (7240, "---") ∷ (0, "---") ∷ (65535, "---") ∷ []
 
+-- the rows are what the table answers
 abbrev pub PrefixRows : Type 0
 PrefixRows = map (λ e. prefixOf (e .0)) prefixRows ≡ map (λ e. letters (e .1)) prefixRows

@@ -6,6 +6,7 @@ use lib.Bits.{bitXor}
 use lib.ListN.{length, getD, set}
 use Rattle.words.specs.Words.{xorAll}
 
+-- associative, commutative, and its own inverse
 pub record XorLaws : Type 0 where
   pub associative : (a b c : ℕ) → bitXor (bitXor a b) c ≡ bitXor a (bitXor b c)
   pub commutative : (a b : ℕ) → bitXor a b ≡ bitXor b a

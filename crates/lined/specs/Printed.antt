@@ -7,6 +7,7 @@ use Rattle.block.specs.Records.{recordsOf}
 use Rattle.lines.specs.Text.{textOf}
 use Rattle.report.specs.Refusal.{refusalLine}
 
+-- the text of the records, or the refusal, by what the judge says
 abbrev pub shown : List (List ℕ) → Verdict ℕ → List ℕ
 shown rs (passed k) = textOf rs
 shown rs (refused r) = refusalLine r

@@ -8,6 +8,7 @@ use Rattle.words.specs.Words.{word, bytesOf}
 use Rattle.record.specs.Lines.{lineCount}
 use Rattle.field.specs.Writing.{fieldOf}
 
+-- a line is its bytes, without its end
 abbrev pub Line : Type 0
 Line = List ℕ
 
@@ -34,6 +35,7 @@ times (suc k) ns = ns ++ times k ns
 unfoldable pub plan : ℕ → ℕ → ℕ → ℕ → List ℕ
 plan lprol jpar mpar nrow = part lprol ++ (part jpar ++ (part jpar ++ times (nrow + 1) (part mpar)))
 
+-- the plan of a Data record, from its words 13 to 16
 abbrev pub dataPlan : List ℕ → List ℕ
 dataPlan r = plan (word r 13) (word r 14) (word r 15) (word r 16)
 

@@ -7,6 +7,7 @@ use Rattle.units.specs.Choice.{if_then_else_}
 use Rattle.units.specs.declared.Answer.{Answer}
 use Rattle.units.specs.Answers.{answer, Verdict, passed, refused}
 
+-- the four numbers, and the output afterwards
 pub record Written : Type 0 where
   pub answer : Answer
   pub out : List ℕ
