@@ -1,0 +1,3 @@
+pub mod Scan
+pub mod Row
+pub mod Zeros
