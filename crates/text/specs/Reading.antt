@@ -11,7 +11,7 @@ use Rattle.record.specs.Judging.{underLeast, wordsNeeded}
 use Rattle.record.specs.Lines.{linesNeeded}
 use Rattle.field.specs.Reading.{columns}
 use Rattle.lines.specs.Lines.{Line, dataPlan}
-use Rattle.text.specs.Cutting.{linesIn}
+use Rattle.cutting.specs.Cutting.{linesIn}
 use Rattle.columns.specs.Columns.{badColumn, inkFrom, blankAfter, columnOf, numbers, zeros}
 
 -- a line still to come of a record: a card, or so many number fields

@@ -1,0 +1,51 @@
+use denote.Ref.{now}
+use mathlib.Core.Path.{_≡_, refl, sym, ap, _∙_}
+use Prim.Native.Nat.{ℕ, _+_, _-_, _≤_, _<_}
+use native.Mathlib.Omega.{arith}
+use lib.ListN.{length, take}
+use lib.Seq.{sets, length-take-le}
+use Rattle.keeping.proofs.Keeping.{sets-out, sets-cut}
+use borrow.Author.Needs.{needs}
+use Rattle.keeping.proofs.keep_bytes.Statement.{statement}
+use Rattle.keeping.proofs.keep_bytes.Tie as tie
+
+returns : tie.Need-returns
+returns c = let a = c .before .before .before .args in sym (sets-out (now (a .out)) (a .at .0) (now (a .bytes)) (c .if1 .taken))
+
+sub-room : tie.Need-sub-room
+sub-room c = search needs
+
+slice-aggregate-write-text : tie.Need-slice-aggregate-write-text
+slice-aggregate-write-text c = let a = c .before .before .before .before .before .args in sym (length-take-le (length (now (a .out)) - a .at .0) (now (a .bytes)) (omega (arith, c .before .if2 .taken)))
+
+write-text-requires : tie.Need-write-text-requires
+write-text-requires c κs = let a = c .before .before .before .before .before .before .args in omega (arith, length-take-le (length (now (a .out)) - a .at .0) (now (a .bytes)) (omega (arith, c .before .before .if2 .taken)))
+
+same-length : tie.Need-same-length
+same-length c = search needs
+
+returns-2 : tie.Need-returns-2
+returns-2 c = let a = c .before .before .before .before .before .before .before .before .before .args in c .before .before .write-text .ensures .bytes ∙ sym (sets-cut (now (a .out)) (a .at .0) (length (now (a .out)) - a .at .0) (now (a .bytes)) (omega (arith, c .before .before .before .before .before .if2 .taken)) (omega (arith, c .before .before .before .before .before .before .if1 .left)))
+
+write-text-requires-2 : tie.Need-write-text-requires-2
+write-text-requires-2 c κs = search needs
+
+same-length-2 : tie.Need-same-length-2
+same-length-2 c = search needs
+
+returns-3 : tie.Need-returns-3
+returns-3 c = search needs
+
+pub keep-bytes-spec : {M : Type 1} → statement M
+keep-bytes-spec =
+    tie.close
+    (tie.spec
+    returns
+    sub-room
+    slice-aggregate-write-text
+    write-text-requires
+    same-length
+    returns-2
+    write-text-requires-2
+    same-length-2
+    returns-3)
