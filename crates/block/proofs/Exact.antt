@@ -189,7 +189,7 @@ pub cut-of : (b : List ℕ) (k : ℕ) → Below 256 b → FrameOk b k → Cut (i
 unfolding recordsOf
 cut-of b k h f = walked 0 1 k (inner (wordsOf b)) (omega arith) (below-inner b h) (f .records)
 
-some-record : (rs : List (List ℕ)) → 1 ≤ length (joined rs) → 1 ≤ length rs
+pub some-record : (rs : List (List ℕ)) → 1 ≤ length (joined rs) → 1 ≤ length rs
 unfolding joined
 some-record [] h = h
 some-record (r ∷ rs) h = omega arith

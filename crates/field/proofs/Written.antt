@@ -25,7 +25,7 @@ module _ (w : ℕ) where
   length-fieldOf = rw (length-append (blanks (6 - length number)) number, length-replicate) (omega (arith, length-number))
 
 module _ {A : Type 0} (P : A → Type 0) where
-  all-replicate : (n : ℕ) (a : A) → P a → All P (replicate n a)
+  pub all-replicate : (n : ℕ) (a : A) → P a → All P (replicate n a)
   all-replicate zero a h = tt
   all-replicate (suc n) a h = (h, all-replicate n a h)
 

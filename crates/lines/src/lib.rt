@@ -58,7 +58,7 @@ fn write_line(whole: &[u8], from: Words, count: Words, out: &mut [u8], at: Bytes
 }
 
 // So many of `left` fields stand on a line.
-fn on_line(left: Words) -> Words
+pub fn on_line(left: Words) -> Words
     ensures { λ r. ⌜ r .0 ≡ min (left .0) 20 ⌝ }
 {
     if left.0 < 20 {
@@ -317,7 +317,7 @@ pub fn numbers(l: Lined) -> Answer
 }
 
 // An answer that says a number of bytes.
-fn sized(n: u8, size: Bytes) -> Answer
+pub fn sized(n: u8, size: Bytes) -> Answer
     requires { ⌜ size .0 < 2 ^ 24 ⌝ }
     ensures { λ r. ⌜ r ≡ answer n (size .0) 0 0 ⌝ }
 {

@@ -62,13 +62,13 @@ passed-cards n z rest k c =
     simp
     (c .total, right-total k (length rest) (c .right), lt-leb (firstNotZero z rest) 40 (c .zeros), lt-leb (firstNotCard k rest) k (c .cards))
 
-at-least : (least w : ℕ) → underLeast least w ≡ false → Least least w
+pub at-least : (least w : ℕ) → underLeast least w ≡ false → Least least w
 unfolding underLeast
 at-least least w e =
     let o = or-off (ltb w least) _ e in
     record { least-is = ltb-false w least (o .0); sign = leb-false 32768 w (o .1) }
 
-least-at : (least w : ℕ) → Least least w → underLeast least w ≡ false
+pub least-at : (least w : ℕ) → Least least w → underLeast least w ≡ false
 unfolding underLeast
 least-at least w h = simp (le-ltb w least (h .least-is), lt-leb 32768 w (h .sign))
 

@@ -108,7 +108,7 @@ pub fn words_needed(lprol: u16, jpar: u16, mpar: u16, nrow: u16) -> Words
 }
 
 // A count is under its least value: words are two's complement.
-fn under(least: u16, w: u16) -> bool
+pub fn under(least: u16, w: u16) -> bool
     ensures { λ r. ⌜ r ≡ underLeast least w ⌝ }
 {
     if w < least {

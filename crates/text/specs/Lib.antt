@@ -1,2 +1,4 @@
 pub mod Reading
+pub mod State
 pub mod Block
+pub mod Cases

@@ -55,32 +55,47 @@ planLine num so head =
 unfoldable pub catalogueLine : ℕ → ℕ → Line → List ℕ → Verdict Read
 catalogueLine num so l head = onward (zeros num l 12 8) (λ _. cardsLine num so 2001 head)
 
--- a Header's 16 to 20 are
-unfoldable pub headerLine : ℕ → ℕ → Line → List ℕ → Verdict Read
-headerLine num so l head =
-    onward (numbers num l 12 3) (λ more. onward (zeros num l 15 5) (λ _. cardsLine num so 3002 (head ++ more)))
+-- a Header's 13 to 15 are free, and its 16 to 20 blank or 0
+unfoldable pub headerFields : ℕ → Line → List ℕ → Verdict (List ℕ)
+headerFields num l head = onward (numbers num l 12 3) (λ more. onward (zeros num l 15 5) (λ _. passed (head ++ more)))
 
--- "Data: 27, fields 17 on, then blank columns by 26"
+unfoldable pub headerLine : ℕ → ℕ → Line → List ℕ → Verdict Read
+headerLine num so l head = onward (headerFields num l head) (λ r. cardsLine num so 3002 r)
+
+-- "Data: 13 to 16", then 27
+unfoldable pub countFields : ℕ → Line → List ℕ → Verdict (List ℕ)
+countFields num l head = onward (numbers num l 12 4) (λ counts. countsIn num (head ++ counts))
+
+-- "fields 17 on, then blank columns by 26"
+unfoldable pub prologueFields : ℕ → Line → List ℕ → Verdict (List ℕ)
+prologueFields num l r =
+    let used = min (word r 13) 20 in
+    onward (numbers num l 16 (used - 16)) (λ more. onward (blankAfter num l (6 * used)) (λ _. passed (r ++ more)))
+
 unfoldable pub dataLine : ℕ → ℕ → Line → List ℕ → Verdict Read
 dataLine num so l head =
-    onward (numbers num l 12 4) (λ counts. onward (countsIn num (head ++ counts)) (λ r.
-    onward (numbers num l 16 (min (word r 13) 20 - 16)) (λ more. onward (blankAfter num l (6 * min (word r 13) 20)) (λ _.
-    planLine num so (r ++ more)))))
+    onward (countFields num l head) (λ r. onward (prologueFields num l r) (λ first. planLine num so first))
 
--- "A record's first line: 20; fields 1 to 12; 23; the further fields its kind always has"
-unfoldable pub firstLine : ℕ → ℕ → Line → Verdict Read
-firstLine num so l =
-    onward (numbers num l 0 12) (λ head.
+-- 23: a kind of the lines
+unfoldable pub kindLine : ℕ → ℕ → Line → List ℕ → Verdict Read
+kindLine num so l head =
     if eqb (word head 2) 2101 then catalogueLine num so l head
     else if eqb (word head 2) 3101 then headerLine num so l head
     else if eqb (word head 2) 1101 then dataLine num so l head
-    else refused (answer 23 num 7 0))
+    else refused (answer 23 num 7 0)
 
--- "Each later line: fields by 22, blank columns by 26"; "Each card is one line of 80 columns"; between records a line may be blank
+-- "A record's first line: 20; fields 1 to 12; 23; the further fields its kind always has"
+unfoldable pub firstLine : ℕ → ℕ → Line → Verdict Read
+firstLine num so l = onward (numbers num l 0 12) (λ head. kindLine num so l head)
+
+-- "Each later line: fields by 22, blank columns by 26"
+unfoldable pub rowFields : ℕ → Line → ℕ → Verdict (List ℕ)
+rowFields num l n = onward (numbers num l 0 n) (λ ws. onward (blankAfter num l (6 * n)) (λ _. passed ws))
+
+-- a line by what is to come: "Each card is one line of 80 columns"; between records it may be blank
 unfoldable pub inState : ℕ → ℕ → List Shape → Line → Verdict Read
 inState num so (card ∷ rest) l = onward (blankAfter num l 80) (λ _. gives (wordsOf (columns 80 l 0)) rest)
-inState num so (fields n ∷ rest) l =
-    onward (numbers num l 0 n) (λ ws. onward (blankAfter num l (6 * n)) (λ _. gives ws rest))
+inState num so (fields n ∷ rest) l = onward (rowFields num l n) (λ ws. gives ws rest)
 inState num so [] l = if eqb (inkFrom 1 l) 0 then gives [] [] else firstLine num so l
 
 -- a line, where `rest` is what is still to come: row 20 is tested first on every line

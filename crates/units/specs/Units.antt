@@ -13,6 +13,10 @@ wordsOfBytes b = b / 2
 abbrev pub linesOfCards : ℕ → ℕ
 linesOfCards w = w / 40
 
+-- the words of so many such lines
+abbrev pub wordsOfCards : ℕ → ℕ
+wordsOfCards l = 40 * l
+
 -- a part takes "20 fields a line; a part with no fields takes no line"; a field is a word
 abbrev pub linesOfFields : ℕ → ℕ
 linesOfFields w = (w + 19) / 20

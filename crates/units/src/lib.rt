@@ -1,7 +1,7 @@
 // The three units of the format, kept apart, with the named conversions between them; and the four numbers of an answer.
 ghost use mathlib.Core.Path.{_≡_};
 ghost use Prim.Native.Nat.{_+_, _*_, _/_, _^_, _<_};
-ghost use Rattle.units.specs.Units.{bytesOfWords, wordsOfBytes, linesOfCards, linesOfFields, columnsOfFields, endsOfLines};
+ghost use Rattle.units.specs.Units.{bytesOfWords, wordsOfBytes, linesOfCards, wordsOfCards, linesOfFields, columnsOfFields, endsOfLines};
 ghost use Rattle.units.specs.Answers.{packedOf};
 
 // A count of 16-bit words, as LTOT of a binary record.
@@ -43,11 +43,26 @@ pub fn words_said(w: u16) -> Words
     Words(w as usize)
 }
 
+// The lines that a field of a record's first line, taken as a count, says.
+pub fn lines_said(w: u16) -> Lines
+    ensures { λ r. ⌜ (r .0 ≡ w) × (r .0 < 65536) ⌝ }
+{
+    Lines(w as usize)
+}
+
 // The lines of a Catalogue or a Header of so many words: its prologue and each card is one.
 pub fn lines_of_cards(w: Words) -> Lines
     ensures { λ r. ⌜ r .0 ≡ linesOfCards (w .0) ⌝ }
 {
     Lines(w.0 / 40)
+}
+
+// The words of a Catalogue or a Header of so many lines.
+pub fn words_of_cards(l: Lines) -> Words
+    requires { ⌜ l .0 < 2 ^ 32 ⌝ }
+    ensures { λ r. ⌜ r .0 ≡ wordsOfCards (l .0) ⌝ }
+{
+    Words(40 * l.0)
 }
 
 // The lines that a part of so many words takes, 20 fields a line.

@@ -53,6 +53,12 @@ words-bytes (w ∷ ws) =
     let e : w / 256 * 256 + w % 256 ≡ w = omega arith in
     rw (e, words-bytes ws)
 
+-- the bytes of words one after the other
+pub bytes-append : (xs ys : List ℕ) → bytesOf (xs ++ ys) ≡ bytesOf xs ++ bytesOf ys
+unfolding bytesOf
+bytes-append [] ys = refl
+bytes-append (w ∷ xs) ys = ap (λ t. (w / 256) ∷ ((w % 256) ∷ t)) (bytes-append xs ys)
+
 pub words-below : (b : List ℕ) → Below 256 b → Below 65536 (wordsOf b)
 unfolding wordsOf
 words-below [] h = tt
@@ -67,7 +73,7 @@ words-drop (suc n) [] = let e : suc n * 2 ≡ suc (suc (n * 2)) = omega arith in
 words-drop (suc n) (x ∷ []) = let e : suc n * 2 ≡ suc (suc (n * 2)) = omega arith in rw e (ap wordsOf (drop-nil (suc (n * 2))))
 words-drop (suc n) (x ∷ y ∷ r) = let e : suc n * 2 ≡ suc (suc (n * 2)) = omega arith in rw e (words-drop n r)
 
-words-take : (n : ℕ) (b : List ℕ) → wordsOf (take (n * 2) b) ≡ take n (wordsOf b)
+pub words-take : (n : ℕ) (b : List ℕ) → wordsOf (take (n * 2) b) ≡ take n (wordsOf b)
 unfolding wordsOf
 words-take zero b = refl
 words-take (suc n) [] = let e : suc n * 2 ≡ suc (suc (n * 2)) = omega arith in rw e refl

@@ -2,3 +2,4 @@ pub mod Lists
 pub mod Laws
 pub mod Xor
 pub mod Writing
+pub mod Sealing

@@ -2,12 +2,12 @@
 use units::Bytes;
 use units::Words;
 ghost use mathlib.Core.Path.{_≡_};
-ghost use mathlib.Core.List.{_∷_, []};
-ghost use Prim.Native.Nat.{_<_, _≤_};
-ghost use lib.ListN.{length, getD};
+ghost use mathlib.Core.List.{_∷_, [], _++_};
+ghost use Prim.Native.Nat.{_+_, _<_, _≤_};
+ghost use lib.ListN.{length, getD, drop};
 ghost use lib.Seq.{sets, slice};
 ghost use Rattle.units.specs.Units.{bytesOfWords};
-ghost use Rattle.words.specs.Words.{wordsOf, bytesOf, xorAll, swapped};
+ghost use Rattle.words.specs.Words.{wordsOf, bytesOf, xorAll, swapped, words, framed};
 
 fn wide(x: u8) -> u16
     ensures { λ r. ⌜ (r ≡ x) × (r < 256) ⌝ }
@@ -80,4 +80,17 @@ pub fn exclusive_or(part: &[u8]) -> u16
         i += 1;
     }
     swap(x)
+}
+
+// Puts the length word before so many record words, and the checksum after them; all bytes past those stay.
+pub fn seal(block: &mut [u8], records: Words)
+    requires { ⌜ (records .0 ≤ 7998) × (bytesOfWords (records .0 + 2) ≤ length (now block)) ⌝ }
+    ensures { λ _. ⌜ now (block .exit) ≡ bytesOf (framed (words (wordsOf (now (block .entry))) 2 (records .0 + 1))) ++ drop (bytesOfWords (records .0 + 2)) (now (block .entry)) ⌝ }
+{
+    let n = records.0;
+    let last = n + 1;
+    let all = n + 2;
+    put_word(block, Words(0), all as u16);
+    let checksum = exclusive_or(part(block, Words(0), Words(last)));
+    put_word(block, Words(last), checksum);
 }

@@ -1,0 +1,80 @@
+-- The call's outcome: a text that was judged, and the block that is written of it.
+use mathlib.Core.Path.{_≡_, refl, sym, ap, _∙_}
+use mathlib.Core.List.{List, [], _∷_}
+use Prim.Native.Nat.{ℕ, _+_, _*_, _≤_, _<_}
+use native.Mathlib.Omega.{arith}
+use native.Mathlib.Nat.{zero-add}
+use borrow.Author.Tests.{lt-ltb, le-ltb, ltb-false}
+use lib.Dec.{ltb}
+use lib.ListN.{length}
+use Rattle.units.specs.declared.Answer.{Answer}
+use Rattle.units.specs.declared.Words.{Words}
+use Rattle.units.specs.Choice.{if_then_else_}
+use Rattle.units.specs.Answers.{answer, Verdict, passed, refused, onward}
+use Rattle.units.proofs.Verdicts.{never-passed, else-passed}
+use Rattle.words.specs.Words.{bytesOf, framed}
+use Rattle.words.specs.Outcomes.{leaves, written}
+use Rattle.columns.specs.declared.Flaw.{Flaw}
+use Rattle.columns.specs.Cases.{flawOf}
+use Rattle.cutting.specs.Cutting.{linesIn}
+use Rattle.text.specs.Reading.{readLines, readText}
+use Rattle.text.specs.Block.{toBlock}
+use Rattle.text.specs.State.{Kept, kept, put, contentOf}
+use Rattle.text.specs.declared.Content.{Content}
+use Rattle.text.specs.declared.Content.the-variants.{Records, Flawed}
+
+-- row 30 comes first
+module _ (t : List ℕ) where
+  pub too-long : 65536 < length t → readText t ≡ refused (answer 30 0 0 0)
+  unfolding readText
+  too-long h = simp (lt-ltb 65536 (length t) h)
+
+  pub line-by-line : length t ≤ 65536 → readText t ≡ readLines 1 0 [] (linesIn t)
+  unfolding readText
+  line-by-line h = simp (le-ltb 65536 (length t) h)
+
+-- an accepted text, and the count of its record words
+pub record Accepts (t : List ℕ) (n : ℕ) : Type 0 where
+  pub records : List ℕ
+  pub is : readText t ≡ passed records
+  pub count : n ≡ length records
+
+pub accepts : (t : List ℕ) (n : Words) → contentOf [] (Records n) ≡ kept 0 [] (readText t) → Accepts t (n .0)
+accepts t n e = by (readText t) refl e
+  where
+    by : (v : Verdict (List ℕ)) → readText t ≡ v → contentOf [] (Records n) ≡ kept 0 [] v → Accepts t (n .0)
+    by (passed ws) is same =
+        let k : _≡_ {A = Kept} (record { so = n .0; block = [] }) (record { so = 0 + length ws; block = put 0 [] ws }) = cc in
+        record { records = ws; is = is; count = ap (λ (x : Kept). x .so) k ∙ zero-add (length ws) }
+    by (refused r) is same = absurd (never-passed (sym same))
+
+-- what was accepted has at most 65,536 bytes
+pub not-long : (t : List ℕ) (n : ℕ) → Accepts t n → length t ≤ 65536
+unfolding readText
+not-long t n a = ltb-false 65536 (length t) (else-passed (ltb 65536 (length t)) (answer 30 0 0 0) _ (a .records) (a .is) .0)
+
+-- the words that are put behind the length word
+pub words-put : (t b b′ : List ℕ) (n : ℕ) (r : Content) (a : Accepts t n) → contentOf b′ r ≡ kept 0 b (readText t) → b′ ≡ put 0 b (a .records)
+words-put t b b′ n (Records m) a e =
+    let k : _≡_ {A = Kept} (record { so = m .0; block = b′ }) (record { so = 0 + length (a .records); block = put 0 b (a .records) }) = let s : contentOf b′ (Records m) ≡ kept 0 b (passed (a .records)) = rw (a .is) at e in cc in
+    ap (λ (x : Kept). x .block) k
+words-put t b b′ n (Flawed f) a e = let s : contentOf b′ (Flawed f) ≡ kept 0 b (passed (a .records)) = rw (a .is) at e in absurd (never-passed s)
+
+-- the block that an accepted text gives
+pub block-is : (t out : List ℕ) (n : ℕ) (a : Accepts t n) → toBlock t out ≡ written out (passed (bytesOf (framed (a .records))))
+unfolding toBlock
+block-is t out n a = rw (a .is)
+
+-- a refused text leaves the block as it is
+pub refused-is : (t out : List ℕ) (f : Flaw) → contentOf [] (Flawed f) ≡ kept 0 [] (readText t) → leaves (flawOf f) out ≡ toBlock t out
+unfolding toBlock written
+refused-is t out f e = by (readText t) e
+  where
+    by : (v : Verdict (List ℕ)) → contentOf [] (Flawed f) ≡ kept 0 [] v → leaves (flawOf f) out ≡ written out (onward v (λ ws. passed (bytesOf (framed ws))))
+    by (passed ws) same = absurd (never-passed same)
+    by (refused r) same = let k : flawOf f ≡ r = cc in ap (λ x. leaves x out) k
+
+-- a buffer of no bytes
+pub no-bytes : (b : List ℕ) → length b ≡ 0 → [] ≡ b
+no-bytes [] e = refl
+no-bytes (x ∷ b) e = absurd (omega arith)

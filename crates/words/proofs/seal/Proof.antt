@@ -1,0 +1,49 @@
+use Rattle.words.proofs.Sealing.{sealed}
+use Rattle.words.proofs.Laws.{length-wordsOf, all-below}
+use native.Mathlib.Omega.{arith}
+use denote.Ref.{now}
+use borrow.Author.Needs.{needs}
+use Rattle.words.proofs.seal.Statement.{statement}
+use Rattle.words.proofs.seal.Tie as tie
+
+add-last : tie.Need-add-last
+add-last c = search needs
+
+add-all : tie.Need-add-all
+add-all c = search needs
+
+cast-put-word : tie.Need-cast-put-word
+cast-put-word c = search needs
+
+put-word-requires : tie.Need-put-word-requires
+put-word-requires c κs = omega (arith, length-wordsOf (now (c .before .before .args .block)), c .before .before .pre .1)
+
+part-requires : tie.Need-part-requires
+part-requires c κs = (omega arith, omega (arith, length-wordsOf (c .before .before .before .put-word .last .0), c .before .before .before .put-word .kept .0, c .before .before .before .before .before .before .pre .1))
+
+exclusive-or-requires : tie.Need-exclusive-or-requires
+exclusive-or-requires c κs = search needs
+
+put-word-requires-2 : tie.Need-put-word-requires-2
+put-word-requires-2 c κs = omega (arith, length-wordsOf (c .before .before .before .before .before .before .put-word .last .0), c .before .before .before .before .before .before .put-word .kept .0, c .before .before .before .before .before .before .before .before .before .pre .1)
+
+same-length : tie.Need-same-length
+same-length c = search needs
+
+returns : tie.Need-returns
+returns c = let b = now (c .before .before .before .before .before .before .before .before .before .before .before .before .args .block) in
+    sealed b (c .before .before .before .before .before .before .before .before .before .before .before .before .args .records .0) (c .before .before .before .before .before .before .before .before .before .before .before .before .pre .1) (all-below 256 b (λ i. omega (arith, c .before .before .before .before .before .before .before .before .before .before .before .slice-known .given i))) (c .before .before .before .before .before .before .before .before .before .put-word .ensures) (c .before .before .before .before .before .part .ensures) (c .before .before .before .before .exclusive-or .ensures) (c .before .before .put-word2 .ensures)
+
+pub seal-spec : {M : Type 1} → statement M
+seal-spec =
+    tie.close
+    (tie.spec
+    add-last
+    add-all
+    cast-put-word
+    put-word-requires
+    part-requires
+    exclusive-or-requires
+    put-word-requires-2
+    same-length
+    returns)
