@@ -1,14 +1,15 @@
 -- Scanning a line column by column: what the next column does to the answer.
-use mathlib.Core.Path.{_≡_, sym, ap}
+use mathlib.Core.Path.{_≡_, refl, ap}
 use mathlib.Core.Bool.{not, _||_}
 use mathlib.Core.List.{List}
-use Prim.Native.Nat.{ℕ, suc, _+_, _≤_, _<_}
+use Prim.Native.Nat.{ℕ, zero, suc, _+_, _≤_, _<_}
 use native.Mathlib.Numerals.{add-one}
 use lib.Dec.{ltb, eqb}
 use lib.ListN.{length, getD, drop, drop-of-length-le}
 use lib.Seq.{drop-cons}
 use Rattle.units.specs.Choice.{if_then_else_}
 use Rattle.record.specs.Judging.{within}
+use Rattle.field.specs.Reading.{columns}
 use Rattle.columns.specs.Columns.{badColumn, inkFrom}
 
 module _ (l : List ℕ) (i : ℕ) where
@@ -29,3 +30,8 @@ module _ (l : List ℕ) (i : ℕ) where
     pub ink-end : inkFrom k (drop i l) ≡ 0
     unfolding inkFrom
     ink-end = rw (drop-of-length-le l {i = i} h)
+
+pub length-columns : (n : ℕ) (l : List ℕ) (at : ℕ) → length (columns n l at) ≡ n
+unfolding columns
+length-columns zero l at = refl
+length-columns (suc n) l at = ap suc (length-columns n l (suc at))

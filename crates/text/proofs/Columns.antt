@@ -63,11 +63,6 @@ clean l e = let c = clean-from 1 l (omega arith) (omega arith) e in record { sho
 
 -- ---- columns of a clean line
 
-pub length-columns : (n : ℕ) (l : Line) (at : ℕ) → length (columns n l at) ≡ n
-unfolding columns
-length-columns zero l at = refl
-length-columns (suc n) l at = ap suc (length-columns n l (suc at))
-
 getD-printed : (l : Line) (i : ℕ) → All Printed l → Printed (getD l i 32)
 getD-printed [] i h = omega arith
 getD-printed (b ∷ l) zero h = h .0

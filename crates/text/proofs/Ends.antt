@@ -8,8 +8,8 @@ use lib.Dec.{eqb}
 use Rattle.units.specs.Choice.{if_then_else_}
 use Rattle.units.specs.Answers.{answer, Verdict, passed, refused}
 use Rattle.words.specs.Words.{bytesOf}
-use Rattle.text.specs.Reading.{Shape, atEnd}
-use Rattle.text.specs.State.{Kept, kept}
+use Rattle.reading.specs.Reading.{Shape, atEnd}
+use Rattle.text.specs.Content.{Kept, kept}
 
 module _ (num so : ℕ) (b : List ℕ) {here : List Shape} where
   pub inside : (s : Shape) (rest : List Shape) → here ≡ s ∷ rest → refused (answer 25 num 1 0) ≡ kept so b (atEnd num so here)

@@ -17,8 +17,8 @@ use Rattle.words.proofs.Writing.{written-answer}
 use Rattle.block.proofs.Exact.{frame-of}
 use Rattle.lines.specs.Lines.{Line}
 use Rattle.cutting.specs.Cutting.{onto, linesIn}
-use Rattle.text.specs.Reading.{Shape, Read, lineStep, atEnd, readLines, readText}
-use Rattle.text.specs.Block.{toBlock}
+use Rattle.reading.specs.Reading.{Shape, Read, lineStep, atEnd, readLines}
+use Rattle.text.specs.Block.{readText, toBlock}
 use Rattle.text.proofs.Told.{told, Known, by-test, then-known}
 use Rattle.text.proofs.Opened.{wordsToCome, skipped, opens, Given, line-known}
 

@@ -1,13 +1,7 @@
-pub mod Steps
-pub mod ToCome
-pub mod Heads
 pub mod Told
 pub mod Columns
-pub mod Cards
-pub mod Fronts
-pub mod Later
-pub mod Loop
-pub mod Ends
 pub mod Opened
 pub mod Known
+pub mod Loop
+pub mod Ends
 pub mod Outcome

@@ -9,13 +9,14 @@ use Rattle.units.specs.Answers.{Verdict, passed, refused, onward}
 use Rattle.units.proofs.Verdicts.{never-passed}
 use Rattle.columns.specs.declared.Flaw.{Flaw}
 use Rattle.columns.specs.Cases.{flawOf}
-use Rattle.text.specs.Reading.{Shape, Read, lineStep, readLines}
-use Rattle.text.specs.State.{Stand, toCome, put, after, stepOf, Near, Kept, kept}
-use Rattle.text.specs.declared.Plan.{Plan}
-use Rattle.text.specs.declared.Step.{Step}
-use Rattle.text.specs.declared.Step.the-variants.{Next, Refused}
+use Rattle.reading.specs.Reading.{Shape, Read, lineStep, readLines}
+use Rattle.reading.specs.State.{Stand, toCome, put, after, stepOf, Near}
+use Rattle.text.specs.Content.{Kept, kept}
+use Rattle.reading.specs.declared.Plan.{Plan}
+use Rattle.reading.specs.declared.Step.{Step}
+use Rattle.reading.specs.declared.Step.the-variants.{Next, Refused}
 use Rattle.cutting.specs.Cutting.{linesIn}
-use Rattle.text.proofs.Heads.{put-append}
+use Rattle.reading.proofs.Heads.{put-append}
 
 -- words that are read in two parts
 kept-both : (so : ℕ) (b ws : List ℕ) (v : Verdict (List ℕ)) → kept so b (onward v (λ vs. passed (ws ++ vs))) ≡ kept (so + length ws) (put so b ws) v

@@ -23,9 +23,10 @@ use Rattle.lines.specs.Lines.{Line, plan, dataPlan}
 use Rattle.lines.proofs.Turns.{fieldsIn, part-turn}
 use Rattle.lines.proofs.Sizes.{fieldsIn-plan}
 use Rattle.columns.specs.Columns.{badColumn, inkFrom, blankAfter, columnOf, numbers, zeros}
-use Rattle.text.specs.Reading.{Shape, card, fields, Read, gives, cardsLine, countsIn, planLine, headerFields, countFields, prologueFields, catalogueLine, headerLine, dataLine, kindLine, firstLine, rowFields, inState, lineStep}
+use Rattle.reading.specs.Reading.{Shape, card, fields, Read, gives, cardsLine, countsIn, planLine, headerFields, countFields, prologueFields, catalogueLine, headerLine, dataLine, kindLine, firstLine, rowFields, inState, lineStep}
+use Rattle.columns.proofs.Scan.{length-columns}
 use Rattle.text.proofs.Told.{Told, told, Known, by-test, then-known, known-as, Any}
-use Rattle.text.proofs.Columns.{bad-most, Clean, clean, length-columns, columns-printed, card-words, WordsRead, numbers-known, zeros-known, blank-known}
+use Rattle.text.proofs.Columns.{bad-most, Clean, clean, columns-printed, card-words, WordsRead, numbers-known, zeros-known, blank-known}
 
 -- ---- the lines to come
 

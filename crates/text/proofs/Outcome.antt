@@ -17,9 +17,10 @@ use Rattle.words.specs.Outcomes.{leaves, written}
 use Rattle.columns.specs.declared.Flaw.{Flaw}
 use Rattle.columns.specs.Cases.{flawOf}
 use Rattle.cutting.specs.Cutting.{linesIn}
-use Rattle.text.specs.Reading.{readLines, readText}
-use Rattle.text.specs.Block.{toBlock}
-use Rattle.text.specs.State.{Kept, kept, put, contentOf}
+use Rattle.reading.specs.Reading.{readLines}
+use Rattle.text.specs.Block.{readText, toBlock}
+use Rattle.reading.specs.State.{put}
+use Rattle.text.specs.Content.{Kept, kept, contentOf}
 use Rattle.text.specs.declared.Content.{Content}
 use Rattle.text.specs.declared.Content.the-variants.{Records, Flawed}
 

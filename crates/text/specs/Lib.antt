@@ -1,4 +1,3 @@
-pub mod Reading
-pub mod State
+pub mod Content
 pub mod Block
 pub mod Cases

@@ -1,11 +1,11 @@
-use Rattle.text.specs.State.{contentOf}
+use Rattle.text.specs.Content.{contentOf}
 use Rattle.text.proofs.Outcome.{no-bytes}
 use lib.ListN.{length}
 use Prim.Native.Nat.{ℕ}
 use denote.Ref.{now}
 use mathlib.Core.Path.{_≡_, refl, sym, ap, _∙_}
 use mathlib.Core.List.{[]}
-use Rattle.text.specs.State.{kept}
+use Rattle.text.specs.Content.{kept}
 use Rattle.text.proofs.Outcome.{too-long, line-by-line}
 use borrow.Author.Needs.{needs}
 use Rattle.text.proofs.judge.Statement.{statement}

@@ -1,7 +1,7 @@
 use denote.Ref.{now}
 use mathlib.Core.Path.{_≡_, refl, sym, ap, _∙_}
 use mathlib.Core.List.{[]}
-use Rattle.text.specs.State.{contentOf}
+use Rattle.text.specs.Content.{contentOf}
 use Rattle.text.proofs.Outcome.{refused-is}
 use borrow.Author.Needs.{needs}
 use Rattle.text.proofs.to_block.Statement.{statement}

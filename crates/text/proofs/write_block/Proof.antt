@@ -6,7 +6,7 @@ use lib.ListN.{length}
 use Rattle.words.specs.Words.{bytesOf, framed}
 use Rattle.words.proofs.Writing.{too-short, all-written}
 use Rattle.words.proofs.Sealing.{sealed-put, length-framed}
-use Rattle.text.specs.State.{kept}
+use Rattle.text.specs.Content.{kept}
 use Rattle.text.proofs.Known.{words-room}
 use Rattle.text.proofs.Outcome.{Accepts, accepts, not-long, words-put, block-is, line-by-line}
 use borrow.Author.Needs.{needs}

@@ -1,0 +1,15 @@
+use mathlib.Core.List.{append-nil}
+use mathlib.Core.Path.{_≡_, refl}
+use lib.ListN.{replicate}
+use Rattle.lines.specs.Lines.{part, times}
+use Rattle.reading.specs.Reading.{card}
+use Rattle.reading.specs.State.{toCome, linesLeft}
+use Rattle.reading.proofs.cards_only.Statement.{statement}
+use Rattle.reading.proofs.cards_only.Tie as tie
+
+returns : tie.Need-returns
+unfolding toCome linesLeft part times
+returns c = append-nil (replicate (c .args .cards .0) card)
+
+pub cards-only-spec : {M : Type 1} → statement M
+cards-only-spec = tie.close (tie.spec returns)

@@ -1,0 +1,22 @@
+use Rattle.reading.proofs.ToCome.{fields-less}
+use mathlib.Core.Path.{_≡_, refl, sym, ap, _∙_}
+use mathlib.Core.List.{List, _∷_, _++_, map}
+use Prim.Native.Nat.{ℕ, _-_}
+use lib.ListN.{replicate}
+use Rattle.lines.specs.Lines.{part, times}
+use Rattle.reading.specs.Reading.{Shape, card, fields}
+use Rattle.reading.specs.State.{toCome, linesLeft}
+use Rattle.reading.proofs.ToCome.{line-less}
+use borrow.Author.Needs.{needs}
+use Rattle.reading.proofs.one_line_less.Statement.{statement}
+use Rattle.reading.proofs.one_line_less.Tie as tie
+
+sub-left : tie.Need-sub-left
+sub-left c = search needs
+
+returns : tie.Need-returns
+unfolding toCome linesLeft
+returns c = rw (c .before .before .pre .2) (fields-less (c .before .before .args .p) (c .before .before .pre .0) (c .before .before .pre .1))
+
+pub one-line-less-spec : {M : Type 1} → statement M
+one-line-less-spec = tie.close (tie.spec sub-left returns)

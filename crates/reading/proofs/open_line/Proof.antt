@@ -1,0 +1,41 @@
+use denote.Ref.{now}
+use mathlib.Core.Path.{_≡_, refl, sym, ap, _∙_}
+use mathlib.Core.List.{[]}
+use Prim.Native.Nat.{ℕ, _+_}
+use native.Mathlib.Nat.{add-zero}
+use native.Mathlib.Omega.{arith}
+use borrow.Author.Tests.{eq-eqb, ne-eqb}
+use Rattle.reading.specs.Reading.{inState, firstLine}
+use Rattle.reading.proofs.Steps.{same-step, passed-stand}
+use Rattle.columns.specs.Columns.{inkFrom}
+use Rattle.words.specs.Words.{bytesOf}
+use borrow.Author.Needs.{needs}
+use Rattle.reading.proofs.open_line.Statement.{statement}
+use Rattle.reading.proofs.open_line.Tie as tie
+
+ink-after-requires : tie.Need-ink-after-requires
+ink-after-requires c κs = search needs
+
+returns : tie.Need-returns
+unfolding inState bytesOf
+returns c = let a = c .before .before .before .before .before .before .args in
+    record { is = rw (sym (c .before .before .ink-after .ensures)) (simp (eq-eqb (c .before .before .ink-after .result .0) 0 (c .if1 .taken)) (passed-stand (c .before .before .before .before .before .before .pre .0) (sym (add-zero (a .so .0))) refl)); near = omega arith }
+
+first-line-requires : tie.Need-first-line-requires
+first-line-requires c κs = search needs
+
+same-length : tie.Need-same-length
+same-length c = search needs
+
+same-length-2 : tie.Need-same-length-2
+same-length-2 c = search needs
+
+returns-2 : tie.Need-returns-2
+unfolding inState
+returns-2 c = let a = c .before .before .before .before .before .before .before .before .before .before .before .before .before .args in let num = a .num .0 in let so = a .so .0 in let l = now (a .line) in
+    same-step (firstLine num so l) (inState num so [] l) (rw (sym (c .before .before .before .before .before .before .before .before .before .ink-after .ensures)) (simp (ne-eqb (c .before .before .before .before .before .before .before .before .before .ink-after .result .0) 0 (c .before .before .before .before .before .before .before .if1 .left)))) (c .before .before .before .before .first-line .ensures)
+
+pub open-line-spec : {M : Type 1} → statement M
+open-line-spec =
+    tie.close
+    (tie.spec ink-after-requires returns first-line-requires same-length same-length-2 returns-2)
