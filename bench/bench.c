@@ -22,7 +22,7 @@
 struct calls {
     const char *whose;
     uint64_t (*judge)(const uint8_t *, size_t);
-    uint64_t (*to_lines)(const uint8_t *, size_t, uint8_t *, size_t);
+    conversion *to_lines, *to_block;
     uint64_t (*prefix)(uint16_t);
 };
 
@@ -32,11 +32,11 @@ static uint64_t judge_nothing(const uint8_t *block, size_t length)
     return length;
 }
 
-static uint64_t to_lines_nothing(const uint8_t *block, size_t block_length, uint8_t *text, size_t text_length)
+static uint64_t convert_nothing(const uint8_t *input, size_t input_length, uint8_t *output, size_t output_length)
 {
-    (void)block;
-    (void)text;
-    return block_length + text_length;
+    (void)input;
+    (void)output;
+    return input_length + output_length;
 }
 
 static uint64_t prefix_nothing(uint16_t instrument)
@@ -48,15 +48,19 @@ enum { LIBRARY, REFERENCE, NOTHING, SETS };
 
 /* The last ones cost what it costs to make a call. */
 static const struct calls sets[SETS] = {
-    {"library", cedar_judge, cedar_to_lines, cedar_prefix},
-    {"reference", reference_judge, reference_to_lines, reference_prefix},
-    {"nothing", judge_nothing, to_lines_nothing, prefix_nothing},
+    {"library", cedar_judge, cedar_to_lines, cedar_to_block, cedar_prefix},
+    {"reference", reference_judge, reference_to_lines, reference_to_block, reference_prefix},
+    {"nothing", judge_nothing, convert_nothing, convert_nothing, prefix_nothing},
 };
 
 static struct block block;
 
 /* Every call writes over the lines of the one before it: nothing clears them. */
 static uint8_t text[CEDAR_TEXT_MOST];
+static size_t text_length;
+
+/* The block of these lines. */
+static uint8_t written[CEDAR_BLOCK_MOST];
 
 static void build_k(void)
 {
@@ -134,6 +138,23 @@ static uint64_t to_no_lines(const struct calls *calls)
     return calls->to_lines(block.bytes, block.length, text, 0);
 }
 
+static uint64_t to_block(const struct calls *calls)
+{
+    return calls->to_block(text, text_length, written, sizeof written);
+}
+
+/* Refusal 22: the last line's last digit is cut off. */
+static uint64_t to_bad_block(const struct calls *calls)
+{
+    return calls->to_block(text, text_length - 2, written, sizeof written);
+}
+
+/* Refusal 29. */
+static uint64_t to_no_block(const struct calls *calls)
+{
+    return calls->to_block(text, text_length, written, 0);
+}
+
 static uint64_t prefix_listed(const struct calls *calls)
 {
     return calls->prefix(6320);
@@ -160,11 +181,25 @@ static const struct task {
     {"lines-records", build_records, to_lines},
     {"lines-k", build_k, to_lines},
     {"lines-no-room", build_data, to_no_lines},
+    {"block-data", build_values, to_block},
+    {"block-data-zeros", build_data, to_block},
+    {"block-catalogue", build_catalogue, to_block},
+    {"block-records", build_records, to_block},
+    {"block-k", build_k, to_block},
+    {"block-bad-last-line", build_values, to_bad_block},
+    {"block-no-room", build_values, to_no_block},
     {"prefix-listed", build_none, prefix_listed},
     {"prefix-unlisted", build_none, prefix_unlisted},
 };
 
 enum { TASKS = sizeof tasks / sizeof tasks[0] };
+
+/* The task's block, and its lines if it has any. */
+static void prepare(const struct task *task)
+{
+    task->build();
+    text_length = cedar_a(reference_to_lines(block.bytes, block.length, text, sizeof text));
+}
 
 static volatile uint64_t sink;
 
@@ -281,7 +316,7 @@ static void print_names(const struct task *task)
 static void print_all(void (*print)(const struct task *))
 {
     for (size_t i = 0; i < TASKS; i++) {
-        tasks[i].build();
+        prepare(&tasks[i]);
         print(&tasks[i]);
     }
 }
@@ -293,7 +328,7 @@ static int make_named_calls(const char *whose, const char *name, unsigned long c
         const struct task *task = &tasks[i / SETS];
 
         if (strcmp(calls->whose, whose) == 0 && strcmp(task->name, name) == 0) {
-            task->build();
+            prepare(task);
             make_calls(task, calls, count);
             return 0;
         }

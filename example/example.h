@@ -6,11 +6,11 @@
 
 #include "cedar.h"
 
-/* One byte more than the largest block has, so that a longer file is refused as well. */
-enum { ROOM = 16001 };
+/* One byte more than the largest block or text has, so that a longer file is refused as well. */
+enum { BLOCK_ROOM = CEDAR_BLOCK_MOST + 1, TEXT_ROOM = CEDAR_READ_MOST + 1 };
 
-/* The number of bytes read into `block`, or -1 if the file cannot be read. */
-static inline long read_block(const char *name, uint8_t *block)
+/* The number of bytes read, at most `room`, or -1 if the file cannot be read. */
+static inline long read_file(const char *name, uint8_t *bytes, size_t room)
 {
     FILE *file = fopen(name, "rb");
     size_t length;
@@ -18,7 +18,7 @@ static inline long read_block(const char *name, uint8_t *block)
 
     if (file == NULL)
         return -1;
-    length = fread(block, 1, ROOM, file);
+    length = fread(bytes, 1, room, file);
     failed = ferror(file);
     fclose(file);
     return failed ? -1 : (long)length;
@@ -28,6 +28,17 @@ static inline void print_answer(FILE *stream, uint64_t answer)
 {
     fprintf(stream, "answer %u %u %u %u\n", (unsigned)cedar_n(answer), (unsigned)cedar_a(answer),
             (unsigned)cedar_b(answer), (unsigned)cedar_c(answer));
+}
+
+/* Writes what a conversion left in `output`, or says why it was refused; gives the program's status. */
+static inline int finish_conversion(uint64_t answer, const uint8_t *output)
+{
+    if (cedar_n(answer) != 0) {
+        print_answer(stderr, answer);
+        return 1;
+    }
+    /* The bytes may get no further than a buffer until they are flushed. */
+    return fwrite(output, cedar_a(answer), 1, stdout) == 1 && fflush(stdout) == 0 ? 0 : 2;
 }
 
 #endif

@@ -16,9 +16,9 @@ static void print_prefix(uint16_t instrument)
 
 int main(int argc, char **argv)
 {
-    static uint8_t block[ROOM];
+    static uint8_t block[BLOCK_ROOM];
     const uint8_t *instrument = block + FIRST_INSTRUMENT;
-    long length = argc == 2 ? read_block(argv[1], block) : -1;
+    long length = argc == 2 ? read_file(argv[1], block, sizeof block) : -1;
     uint64_t answer;
 
     if (length < 0) {

@@ -6,19 +6,12 @@
 
 int main(int argc, char **argv)
 {
-    static uint8_t block[ROOM], text[CEDAR_TEXT_MOST];
-    long length = argc == 2 ? read_block(argv[1], block) : -1;
-    uint64_t answer;
+    static uint8_t block[BLOCK_ROOM], text[CEDAR_TEXT_MOST];
+    long length = argc == 2 ? read_file(argv[1], block, sizeof block) : -1;
 
     if (length < 0) {
         fprintf(stderr, "usage: lines FILE, a file that can be read\n");
         return 2;
     }
-    answer = cedar_to_lines(block, (size_t)length, text, sizeof text);
-    if (cedar_n(answer) != 0) {
-        print_answer(stderr, answer);
-        return 1;
-    }
-    /* The lines may get no further than a buffer until they are flushed. */
-    return fwrite(text, cedar_a(answer), 1, stdout) == 1 && fflush(stdout) == 0 ? 0 : 2;
+    return finish_conversion(cedar_to_lines(block, (size_t)length, text, sizeof text), text);
 }

@@ -1,8 +1,8 @@
 /*
- * Compares the library's calls with the reference's, on the examples of document 01 and on blocks by chance.
+ * Compares the library's calls with the reference's, on the examples of document 01 and on blocks and texts by chance.
  *
- *   compare [-s SEED] [-n CASES]   all comparisons, with so many blocks
- *   compare [-s SEED] -c CASE      this block only
+ *   compare [-s SEED] [-n CASES]   all comparisons, with so many blocks and texts
+ *   compare [-s SEED] -c CASE      this block and this text only
  */
 #define _POSIX_C_SOURCE 200809L
 #include <inttypes.h>
@@ -13,15 +13,19 @@
 
 #include "cedar.h"
 #include "generate.h"
+#include "generate_text.h"
 #include "paper.h"
 #include "reference.h"
 #include "trial.h"
 
-/* Bytes: enough for a length that is too short when it is counted in 16 bits. */
-enum { TEXT_ROOM = 65536 + CEDAR_TEXT_MOST };
+/* Bytes of the largest buffer that is lent; TEXT_ROOM is less. */
+enum { ROOM = BLOCK_ROOM };
 
 /* Answers that a block alone decides: 0 to 9. */
 #define BLOCK_ANSWERS UINT64_C(0x3ff)
+
+/* Answers of a text: 0, and 20 to 30. */
+#define TEXT_ANSWERS UINT64_C(0x7ff00001)
 
 static uint64_t make_judge(const struct lent *block)
 {
@@ -35,13 +39,28 @@ static uint64_t make_to_lines(const struct lent *lent)
     return cedar_to_lines(block->copy, block->length, text->copy, text->length);
 }
 
+static uint64_t make_to_block(const struct lent *lent)
+{
+    const struct lent *text = &lent[0], *block = &lent[1];
+
+    return cedar_to_block(text->copy, text->length, block->copy, block->length);
+}
+
 static struct call judge = {"judge", make_judge, 1, BLOCK_ANSWERS, {0}};
 static struct call to_lines = {"to lines", make_to_lines, 2, BLOCK_ANSWERS | UINT64_C(1) << 29, {0}};
+static struct call to_block = {"to block", make_to_block, 2, TEXT_ANSWERS, {0}};
 
-/* A block that the call must leave as it is. */
+/* Buffers that the call must leave as they are. */
 static struct lent lend_block(const struct block *block)
 {
-    struct lent lent = {"block", block->length, block->bytes, block->bytes, NULL};
+    struct lent lent = {"block", block->length, block->bytes, block->bytes, NULL, false};
+
+    return lent;
+}
+
+static struct lent lend_text(const struct text *text)
+{
+    struct lent lent = {"text", text->length, text->bytes, text->bytes, NULL, true};
 
     return lent;
 }
@@ -53,10 +72,10 @@ static void compare_judge(struct trials *trials, const struct block *block)
     try_call(trials, &trial);
 }
 
-/* Bytes by chance, drawn once; each text finds those from another start on. */
+/* Bytes by chance, drawn once; each output finds those from another start on. */
 enum { STARTS = 4096 };
 
-static uint8_t noise[STARTS + TEXT_ROOM];
+static uint8_t noise[STARTS + ROOM];
 
 static void draw_noise(void)
 {
@@ -66,13 +85,14 @@ static void draw_noise(void)
         noise[i] = (uint8_t)draw(&chance);
 }
 
-static void compare_text(struct trials *trials, struct chance *chance, const struct block *block, size_t length)
+/* Converts the input to an output of so many bytes. */
+static void compare_output(struct trials *trials, struct chance *chance, struct call *call, conversion *reference,
+                           struct lent input, size_t length)
 {
-    static uint8_t after[TEXT_ROOM];
+    static uint8_t after[ROOM];
     const uint8_t *before = noise + between(chance, 0, STARTS);
-    struct lent text = {"text", length, before, memcpy(after, before, length), NULL};
-    struct trial trial = {&to_lines, reference_to_lines(block->bytes, block->length, after, length),
-                          {lend_block(block), text}};
+    struct lent output = {"output", length, before, memcpy(after, before, length), NULL, false};
+    struct trial trial = {call, reference(input.before, input.length, after, length), {input, output}};
 
     try_call(trials, &trial);
 }
@@ -80,6 +100,7 @@ static void compare_text(struct trials *trials, struct chance *chance, const str
 /* Texts about as long as the block needs; a block that is refused needs none, and gets one of any length. */
 static void compare_to_lines(struct trials *trials, struct chance *chance, const struct block *block)
 {
+    struct lent input = lend_block(block);
     uint64_t answer = reference_to_lines(block->bytes, block->length, NULL, 0);
     size_t needed = cedar_n(answer) == 29 ? cedar_a(answer) : between(chance, 2, CEDAR_TEXT_MOST);
     const size_t larger[] = {CEDAR_TEXT_MOST, 65536, 65535 + needed, TEXT_ROOM};
@@ -88,10 +109,42 @@ static void compare_to_lines(struct trials *trials, struct chance *chance, const
     };
 
     if (cedar_n(answer) != 29)
-        compare_text(trials, chance, block, PICK(chance, lengths));
+        compare_output(trials, chance, &to_lines, reference_to_lines, input, PICK(chance, lengths));
     else
         for (size_t i = 0; i < sizeof lengths / sizeof lengths[0]; i++)
-            compare_text(trials, chance, block, lengths[i]);
+            compare_output(trials, chance, &to_lines, reference_to_lines, input, lengths[i]);
+}
+
+/* Blocks about as long as the text needs; a text that is refused gets one of any length. */
+static void compare_to_block(struct trials *trials, struct chance *chance, const struct text *text)
+{
+    struct lent input = lend_text(text);
+    uint64_t answer = reference_to_block(text->bytes, text->length, NULL, 0);
+    size_t needed = cedar_n(answer) == 29 ? cedar_a(answer) : between(chance, 2, CEDAR_BLOCK_MOST);
+    const size_t shorter[] = {0, 1, needed - 2, needed - 1, between(chance, 0, needed - 1)};
+    const size_t longer[] = {needed + 1, needed + 2, CEDAR_BLOCK_MOST, 65535 + needed, BLOCK_ROOM};
+
+    if (one_in(chance, 2))
+        compare_output(trials, chance, &to_block, reference_to_block, input, PICK(chance, shorter));
+    else
+        compare_output(trials, chance, &to_block, reference_to_block, input, PICK(chance, longer));
+    if (cedar_n(answer) == 29)
+        compare_output(trials, chance, &to_block, reference_to_block, input, needed);
+}
+
+/* The library's lines of a block that it accepts are read as this block; so they are their own standard lines. */
+static void check_return(struct trials *trials, const uint8_t *block, size_t length)
+{
+    static uint8_t text[CEDAR_TEXT_MOST], again[CEDAR_BLOCK_MOST];
+    uint64_t lined = cedar_to_lines(block, length, text, sizeof text);
+    uint64_t read = cedar_to_block(text, cedar_a(lined), again, sizeof again);
+    bool same = cedar_n(lined) == 0 && read == pack(0, length, 0, 0) && memcmp(again, block, length) == 0;
+
+    if (tally_fails(&trials->tally, same)) {
+        printf("case -s %" PRIu64 " -c %" PRIu64 ", there and back\n", trials->seed, trials->number);
+        print_answer("to lines", lined);
+        print_answer("to block", read);
+    }
 }
 
 static void compare_prefix(struct tally *tally, uint16_t instrument)
@@ -106,15 +159,38 @@ static void compare_prefix(struct tally *tally, uint16_t instrument)
     }
 }
 
-static void compare_case(struct trials *trials, uint64_t number)
+static void compare_block(struct trials *trials, struct chance *chance)
 {
     static struct block block;
+
+    generate_block(chance, trials->number, &block);
+    compare_judge(trials, &block);
+    compare_to_lines(trials, chance, &block);
+    /* Large blocks take their time; one in three is of every recipe. */
+    if (trials->number % 3 == 0 && cedar_n(reference_judge(block.bytes, block.length)) == 0)
+        check_return(trials, block.bytes, block.length);
+}
+
+static void compare_text(struct trials *trials, struct chance *chance)
+{
+    static struct text text;
+    static uint8_t block[CEDAR_BLOCK_MOST];
+    uint64_t read;
+
+    generate_text(chance, trials->number, &text);
+    compare_to_block(trials, chance, &text);
+    read = cedar_to_block(text.bytes, text.length, block, sizeof block);
+    if (cedar_n(read) == 0)
+        check_return(trials, block, cedar_a(read));
+}
+
+static void compare_case(struct trials *trials, uint64_t number)
+{
     struct chance chance = case_chance(trials->seed, number);
 
     trials->number = number;
-    generate_block(&chance, number, &block);
-    compare_judge(trials, &block);
-    compare_to_lines(trials, &chance, &block);
+    compare_block(trials, &chance);
+    compare_text(trials, &chance);
 }
 
 static void compare_all(struct trials *trials, uint64_t cases)
@@ -127,6 +203,7 @@ static void compare_all(struct trials *trials, uint64_t cases)
         compare_case(trials, number);
     print_reached(trials, &judge);
     print_reached(trials, &to_lines);
+    print_reached(trials, &to_block);
     printf("%lu passed, %lu failed\n", trials->tally.passed, trials->tally.failed);
 }
 
@@ -153,8 +230,8 @@ int main(int argc, char **argv)
         }
     draw_noise();
     trials.shown = only != NULL;
-    trials.guards[0] = guard_open(BLOCK_ROOM);
-    trials.guards[1] = guard_open(TEXT_ROOM);
+    for (size_t i = 0; i < LENT_MOST; i++)
+        trials.guards[i] = guard_open(ROOM);
     if (only != NULL)
         compare_case(&trials, strtoull(only, NULL, 10));
     else

@@ -202,14 +202,20 @@ static void wrap_sign(struct chance *chance, uint8_t *record, size_t words)
     put_word(record, NROW, 0x7fff);
 }
 
-/* Row 9: a total that comes out right only where 16 bits are too few for it. */
-static void wrap_total(struct chance *chance, struct block *block)
+void wrap_counts(struct chance *chance, uint8_t *record, size_t words)
 {
     static void (*const wraps[])(struct chance *, uint8_t *, size_t) = {wrap_product, wrap_sum, wrap_rows, wrap_sign};
+
+    PICK(chance, wraps)(chance, record, words);
+}
+
+/* Row 9. */
+static void wrap_total(struct chance *chance, struct block *block)
+{
     struct place place = choose(chance, block, DATA_RECORD);
 
     if (place.words != 0)
-        PICK(chance, wraps)(chance, place.record, place.words);
+        wrap_counts(chance, place.record, place.words);
 }
 
 /* Any word of a prologue, whatever comes of it. */

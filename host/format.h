@@ -2,6 +2,8 @@
 #ifndef FORMAT_H
 #define FORMAT_H
 
+#include <stddef.h>
+
 /* Kinds of records. */
 enum { DATA = 1002, CATALOGUE = 2001, HEADER = 3002 };
 
@@ -22,5 +24,19 @@ enum { DATA_IN_LINES = 1101, CATALOGUE_IN_LINES = 2101, HEADER_IN_LINES = 3101 }
 
 /* Columns of a number field and of a card, and fields of a full line. */
 enum { FIELD_COLUMNS = 6, CARD_COLUMNS = 80, LINE_FIELDS = 20 };
+
+/* At most: columns of a line, lines of a Catalogue or Header, words of a block's records, bytes of a text. */
+enum { LINE_COLUMNS = FIELD_COLUMNS * LINE_FIELDS, CARDS_LINES = 199, WORDS_MOST = BLOCK_MOST - 2, TEXT_MOST = 65536 };
+
+static inline size_t lines_of_fields(size_t fields)
+{
+    return (fields + LINE_FIELDS - 1) / LINE_FIELDS;
+}
+
+/* How many of these stand on the first line. */
+static inline size_t fields_of_line(size_t fields)
+{
+    return fields < LINE_FIELDS ? fields : LINE_FIELDS;
+}
 
 #endif

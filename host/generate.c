@@ -80,8 +80,8 @@ static size_t share_of(struct chance *chance, size_t left, size_t most)
     return left - words < PROLOGUE_LEAST ? left : words;
 }
 
-/* A closed block without a fault; more than 8,000 words are its only one. */
-static void build(struct chance *chance, struct block *block, size_t words)
+/* More than 8,000 words are the block's only fault. */
+void generate_words(struct chance *chance, struct block *block, size_t words)
 {
     static const size_t mosts[] = {PROLOGUE_LEAST, LINE_WORDS, 3 * LINE_WORDS, BLOCK_MOST};
     size_t most = PICK(chance, mosts);
@@ -104,7 +104,7 @@ static void build_any(struct chance *chance, struct block *block)
     static const size_t mosts[] = {BLOCK_LEAST, 60, 60, 120, 120, 120, 600, 600, BLOCK_MOST};
     size_t most = PICK(chance, mosts);
 
-    build(chance, block, one_in(chance, 10) ? BLOCK_MOST : between(chance, BLOCK_LEAST, most));
+    generate_words(chance, block, one_in(chance, 10) ? BLOCK_MOST : between(chance, BLOCK_LEAST, most));
 }
 
 /* A Catalogue or Header as large as chance wants it, up to 198 cards. */
@@ -153,6 +153,18 @@ static void build_mixed(struct chance *chance, struct block *block)
     block_close(block);
 }
 
+void generate_good(struct chance *chance, struct block *block)
+{
+    static const size_t mosts[] = {BLOCK_LEAST, 60, 120, 120, 300};
+
+    if (one_in(chance, 12))
+        build_mixed(chance, block);
+    else if (one_in(chance, 12))
+        build_cards(chance, block);
+    else
+        generate_words(chance, block, between(chance, BLOCK_LEAST, PICK(chance, mosts)));
+}
+
 /* The block of the longest text, of about the most words, or of about the least. */
 static void build_limit(struct chance *chance, struct block *block)
 {
@@ -160,9 +172,9 @@ static void build_limit(struct chance *chance, struct block *block)
         fill_data(chance, block_of_most_data(block));
         block_seal(block);
     } else if (one_in(chance, 2)) {
-        build(chance, block, between(chance, BLOCK_MOST - 2, BLOCK_MOST + 2));
+        generate_words(chance, block, between(chance, BLOCK_MOST - 2, BLOCK_MOST + 2));
     } else {
-        build(chance, block, BLOCK_LEAST);
+        generate_words(chance, block, BLOCK_LEAST);
         block_resize(block, between(chance, BLOCK_LEAST - 3, BLOCK_LEAST + 1));
         block_seal(block);
     }

@@ -19,11 +19,13 @@ can_compile() {
         $compiler -x c - $link -o "$build/can-compile" 2>/dev/null
 }
 
-# need PACKAGE..: installs what the compiler is made of, once.
+# need TEST PACKAGE..: installs the packages if the test fails, and tries it once more.
 need() {
-    can_compile && return
+    works=$1
+    shift
+    "$works" && return
     as_root apt-get update >&2 && as_root apt-get install -y "$@" >&2
-    can_compile || die "$compiler does not work; install $*"
+    "$works" || die "a compiler does not work; install $*"
 }
 
 # compile PROGRAM FLAG.. SOURCE..
@@ -46,14 +48,14 @@ machine=$(uname -m)
 case $machine in
 x86_64)
     compiler=cc link= emulator=
-    need gcc libc6-dev
+    need can_compile gcc libc6-dev
     ;;
 aarch64)
     # The archive links only into x86-64 programs, and the emulator finds no shared libraries for them.
     compiler=x86_64-linux-gnu-gcc link=-static
     guide=$(rt doc) || die "rt of the Rattle kit is needed"
     emulator=$(dirname "$(dirname "$guide")")/on/$machine/toolchain/bin/qemu-x86_64
-    need gcc-x86-64-linux-gnu libc6-dev-amd64-cross
+    need can_compile gcc-x86-64-linux-gnu libc6-dev-amd64-cross
     ;;
 *)
     die "x86-64 or Arm is needed, not $machine"

@@ -8,8 +8,11 @@
 #include "reference.h"
 #include "words.h"
 
-/* K's NROW as a word of the block. */
-enum { K_NROW = 1 + NROW };
+/* K's NROW and its record's word 22, as words of the block. */
+enum { K_NROW = 1 + NROW, K_VALUE = 1 + 22 };
+
+/* Bytes of K's text, and of those before its JPAR, and before columns 7 to 12 of line 5, where word 22 stands. */
+enum { K_TEXT = 150, BEFORE_JPAR = FIELD_COLUMNS * (JPAR - 1), BEFORE_VALUE = 130 };
 
 static void check(struct tally *tally, const char *what, bool holds)
 {
@@ -23,24 +26,30 @@ static void check_answer(struct tally *tally, const char *what, const struct blo
           cedar_judge(block->bytes, block->length) == answer && reference_judge(block->bytes, block->length) == answer);
 }
 
-typedef uint64_t to_lines(const uint8_t *, size_t, uint8_t *, size_t);
+struct bytes {
+    const uint8_t *at;
+    size_t length;
+};
 
-/* Whether the call writes this text where there is just room for it, and asks for that room where a byte lacks. */
-static bool writes(to_lines *call, const struct block *block, const uint8_t *text, size_t length)
+/* Whether the call writes this output where there is just room for it, and asks for that room where a byte lacks. */
+static bool writes(conversion *call, struct bytes input, struct bytes output)
 {
     static uint8_t written[CEDAR_TEXT_MOST];
 
     memset(written, 0, sizeof written);
-    return call(block->bytes, block->length, written, length - 1) == pack(29, length, 0, 0) &&
-           call(block->bytes, block->length, written, length) == pack(0, length, 0, 0) &&
-           memcmp(written, text, length) == 0;
+    return call(input.at, input.length, written, output.length - 1) == pack(29, output.length, 0, 0) &&
+           call(input.at, input.length, written, output.length) == pack(0, output.length, 0, 0) &&
+           memcmp(written, output.at, output.length) == 0;
 }
 
+/* The block's text is this one, and is read as the block. */
 static void check_text(struct tally *tally, const char *what, const struct block *block, const uint8_t *text,
                        size_t length)
 {
-    check(tally, what,
-          writes(cedar_to_lines, block, text, length) && writes(reference_to_lines, block, text, length));
+    struct bytes lines = {text, length}, words = {block->bytes, block->length};
+
+    check(tally, what, writes(cedar_to_lines, words, lines) && writes(reference_to_lines, words, lines));
+    check(tally, what, writes(cedar_to_block, lines, words) && writes(reference_to_block, lines, words));
 }
 
 /* A text of which only the length is given. */
@@ -71,6 +80,15 @@ static void check_file(struct tally *tally, const char *name, const struct block
     size_t length = read_file(name, bytes, sizeof bytes);
 
     check(tally, name, length == block->length && memcmp(bytes, block->bytes, length) == 0);
+}
+
+static void check_read(struct tally *tally, const char *what, const uint8_t *text, size_t length, uint64_t answer)
+{
+    static uint8_t block[CEDAR_BLOCK_MOST];
+
+    check(tally, what,
+          cedar_to_block(text, length, block, sizeof block) == answer &&
+              reference_to_block(text, length, block, sizeof block) == answer);
 }
 
 static size_t lines_in(const uint8_t *text, size_t length)
@@ -127,7 +145,7 @@ static void check_k(struct tally *tally)
 
     block_of_k(&block);
     check_answer(tally, "example 1", &block, pack(0, 1, 0, 0));
-    check_length(tally, "example 1, text", &block, 150);
+    check_length(tally, "example 1, text", &block, K_TEXT);
     check_file(tally, "example/k.block", &block);
     put_word(block.bytes, block.words, (uint16_t)-32515);
     check_answer(tally, "example 2", &block, pack(3, 0, 0, 1));
@@ -135,6 +153,57 @@ static void check_k(struct tally *tally)
     block_seal(&block);
     check_answer(tally, "example 8", &block, pack(9, 1, 1, 0));
     check_file(tally, "example/k-damaged.block", &block);
+}
+
+/* K, and its text with these columns in the place of others. */
+static void k_with(struct block *block, uint8_t *text, size_t before, const char *columns)
+{
+    block_of_k(block);
+    reference_to_lines(block->bytes, block->length, text, K_TEXT);
+    memcpy(text + before, columns, strlen(columns));
+}
+
+static void check_good_field(struct tally *tally, const char *columns, int value)
+{
+    static struct block block;
+    uint8_t text[K_TEXT];
+    struct bytes lines = {text, sizeof text}, words = {block.bytes, 0};
+
+    k_with(&block, text, BEFORE_VALUE, columns);
+    put_word(block.bytes, K_VALUE, (uint16_t)value);
+    block_seal(&block);
+    words.length = block.length;
+    check(tally, columns, writes(cedar_to_block, lines, words) && writes(reference_to_block, lines, words));
+}
+
+static void check_bad_columns(struct tally *tally, size_t before, const char *columns, uint64_t answer)
+{
+    static struct block block;
+    uint8_t text[K_TEXT];
+
+    k_with(&block, text, before, columns);
+    check_read(tally, columns, text, sizeof text, answer);
+}
+
+/* Example 7. */
+static void check_fields(struct tally *tally)
+{
+    check_good_field(tally, "-32768", -32768);
+    check_good_field(tally, "032767", 32767);
+    check_good_field(tally, "    +5", 5);
+    check_good_field(tally, "    -0", 0);
+    check_bad_columns(tally, BEFORE_VALUE, "-32769", pack(22, 5, 7, 0));
+    check_bad_columns(tally, BEFORE_VALUE, "032768", pack(22, 5, 7, 0));
+    check_bad_columns(tally, BEFORE_VALUE, "12    ", pack(22, 5, 7, 0));
+    check_bad_columns(tally, BEFORE_VALUE, "      ", pack(22, 5, 7, 0));
+}
+
+/* JPAR, MPAR and NROW: their sum is K's again in 16 bits; it is negative in 16 bits; MPAR is too low. */
+static void check_counts(struct tally *tally)
+{
+    check_bad_columns(tally, BEFORE_JPAR, "     2     4 16384", pack(28, 1, 1, 0));
+    check_bad_columns(tally, BEFORE_JPAR, "     1 32767 32767", pack(28, 1, 1, 0));
+    check_bad_columns(tally, BEFORE_JPAR, "     1    -1    -1", pack(27, 1, 85, 0));
 }
 
 static void check_smallest(struct tally *tally)
@@ -158,6 +227,39 @@ static void check_largest(struct tally *tally)
     check_length(tally, "text of a Catalogue of 199 lines", &block, 121 + 198 * 81);
 }
 
+/* Catalogues: field 1 decides, whatever lines there are. */
+static void check_line_counts(struct tally *tally)
+{
+    static struct block block;
+    static uint8_t text[CEDAR_TEXT_MOST];
+    size_t length;
+
+    block_of_most_cards(&block);
+    length = cedar_a(reference_to_lines(block.bytes, block.length, text, sizeof text));
+    memcpy(text, "   200", FIELD_COLUMNS);
+    check_read(tally, "example 9, field 1 of 200", text, length, pack(24, 1, 1, 0));
+    memcpy(text, "     0", FIELD_COLUMNS);
+    check_read(tally, "field 1 of 0", text, length, pack(24, 1, 1, 0));
+    memcpy(text, "   199", FIELD_COLUMNS);
+    check_read(tally, "a line that lacks", text, length - 81, pack(25, 199, 1, 0));
+}
+
+/* As many lines as a text can have, and their last one. */
+static void check_most_lines(struct tally *tally)
+{
+    static uint8_t text[TEXT_MOST + 1];
+    uint8_t *last = &text[TEXT_MOST - 1];
+
+    memset(text, '\n', sizeof text);
+    check_read(tally, "no line", text, 0, pack(21, 0, 0, 0));
+    check_read(tally, "only empty lines", text, TEXT_MOST, pack(21, 0, 0, 0));
+    check_read(tally, "a line too many", text, TEXT_MOST + 1, pack(30, 0, 0, 0));
+    *last = '0';
+    check_read(tally, "line 65,536 without a field", text, TEXT_MOST, pack(22, TEXT_MOST, 1, 0));
+    *last = CARD_MOST + 1;
+    check_read(tally, "line 65,536 with a bad byte", text, TEXT_MOST, pack(20, TEXT_MOST, 1, 0));
+}
+
 static void check_prefix(struct tally *tally, uint16_t instrument, const char *letters)
 {
     uint64_t answer = pack(0, (uint8_t)letters[0], (uint8_t)letters[1], (uint8_t)letters[2]);
@@ -170,6 +272,10 @@ void check_paper(struct tally *tally)
     check_k(tally);
     check_smallest(tally);
     check_largest(tally);
+    check_fields(tally);
+    check_counts(tally);
+    check_line_counts(tally);
+    check_most_lines(tally);
     check_examples(tally);
     check_prefix(tally, 30, "MLH");
     check_prefix(tally, 5140, "AQF");

@@ -134,11 +134,6 @@ uint64_t reference_judge(const uint8_t *block, size_t length)
     return judge_records(block + bytes_of(1), words - 2);
 }
 
-static size_t lines_of_fields(size_t fields)
-{
-    return (fields + LINE_FIELDS - 1) / LINE_FIELDS;
-}
-
 static size_t lines_of_data(const uint8_t *record)
 {
     /* The 2-D codes take the lines of one more row. */

@@ -10,8 +10,12 @@ static inline uint64_t pack(uint64_t n, uint64_t a, uint64_t b, uint64_t c)
     return n << 56 | a << 32 | b << 16 | c;
 }
 
+/* A call that writes one buffer from another. */
+typedef uint64_t conversion(const uint8_t *input, size_t input_length, uint8_t *output, size_t output_length);
+
 uint64_t reference_judge(const uint8_t *block, size_t length);
 uint64_t reference_to_lines(const uint8_t *block, size_t block_length, uint8_t *text, size_t text_length);
+uint64_t reference_to_block(const uint8_t *text, size_t text_length, uint8_t *block, size_t block_length);
 uint64_t reference_prefix(uint16_t instrument);
 
 #endif

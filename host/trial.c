@@ -70,15 +70,33 @@ static void print_outcome(const struct outcome *outcome)
     }
 }
 
+static void print_bytes(const uint8_t *bytes, size_t length)
+{
+    enum { SHOWN = 96, A_LINE = 32 };
+
+    for (size_t i = 0; i < length && i < SHOWN; i++)
+        printf("%s%02x", i % A_LINE == 0 ? "\n    " : " ", bytes[i]);
+}
+
+/* A line of the text each, and its bad bytes as numbers. */
+static void print_characters(const uint8_t *bytes, size_t length)
+{
+    enum { SHOWN = 4000 };
+
+    printf("\n    ");
+    for (size_t i = 0; i < length && i < SHOWN; i++)
+        if (bytes[i] == '\n')
+            printf("\n    ");
+        else
+            printf(bytes[i] >= ' ' && bytes[i] <= '~' ? "%c" : "<%02x>", bytes[i]);
+}
+
 /* With its first bytes, if the call only reads it. */
 static void print_lent(const struct lent *lent)
 {
-    enum { SHOWN = 96, A_LINE = 32 };
-    size_t shown = lent->before != lent->after ? 0 : lent->length < SHOWN ? lent->length : SHOWN;
-
     printf("  %s, %zu bytes", lent->name, lent->length);
-    for (size_t i = 0; i < shown; i++)
-        printf("%s%02x", i % A_LINE == 0 ? "\n    " : " ", lent->before[i]);
+    if (lent->before == lent->after)
+        (lent->characters ? print_characters : print_bytes)(lent->before, lent->length);
     printf("\n");
 }
 

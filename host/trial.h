@@ -20,6 +20,7 @@ struct lent {
     size_t length;
     const uint8_t *before, *after; /* what the call finds, and what it must leave */
     uint8_t *copy;                 /* what the call is lent, while it is tried */
+    bool characters;               /* how it is printed */
 };
 
 struct call {

@@ -1,7 +1,8 @@
 /*
  * cedar.h: the C calls of Nalungkep, a proved converter for CEDAR radar data.
  *
- * The library judges binary blocks of the CEDAR database format, writes their lines and finds instruments' prefixes.
+ * The library judges binary blocks of the CEDAR database format, writes their lines, reads lines back to a block and
+ * finds instruments' prefixes.
  * It is proved, for every input, to answer as written here.
  * Link x86-64 programs with libcedar.a; it needs no other library.
  *
@@ -41,6 +42,16 @@
  *   Catalogue, Header: a line of 20 fields, then each card as a line of all its 80 bytes.
  *   Data: the prologue, the JPAR codes, the JPAR values, the MPAR codes and each row begin on a new line.
  *   Data: each of these has 20 fields a line, what is left of them on its last line, and no line if it has no fields.
+ *
+ * Lines that are read may be spelled more widely.
+ *   A line has at most 120 bytes, each from 32 to 126. It ends with LF, CR LF, or, after a byte, the end of the text.
+ *   A CR elsewhere is a bad byte.
+ *   Lines are numbered from 1 through the whole text, and columns from 1. Columns that a line lacks are blank.
+ *   A field may have a plus or leading zeros: it is blanks, at most one sign, and digits to its last column.
+ *   Catalogue: fields 13 to 20 are 0 or blank. Header: fields 16 to 20 are 0 or blank.
+ *   Columns after a line's last field, or after a card's column 80, are blank.
+ *   A blank line has no byte or only blanks. It may stand before, between and after records; in a record it is a card,
+ *   or a line of Data whose fields are bad.
  *
  * An answer
  *   is four numbers n, a, b, c in one: 2^56 n + 2^32 a + 2^16 b + c.
@@ -101,6 +112,43 @@ enum { CEDAR_TEXT_MOST = 55971 };
  * Bytes of the text past those written stay as they are: no NUL is added.
  */
 uint64_t cedar_to_lines(const uint8_t *block, size_t block_length, uint8_t *text, size_t text_length);
+
+/* Bytes: of the longest text that is read, and that suffice for the block of any text. */
+enum { CEDAR_READ_MOST = 65536, CEDAR_BLOCK_MOST = 16000 };
+
+/*
+ * Writes the block of the lines in the `text_length` bytes at `text` to `block`.
+ * The block has room for `block_length` bytes.
+ *
+ *   n   given when                                         a               b               c
+ *   0   the block is written                               bytes written
+ *   20  a line has a column past 120, or a byte            line            that column
+ *       that is not 32 to 126
+ *   21  the text has no record
+ *   22  a field is no number from -32,768 to 32,767        line            its first column
+ *   23  the kind is unknown                                line            7
+ *   24  Catalogue, Header: field 1 is not 1 to 199         line            1
+ *       Data: field 1 is not the lines of its counts       line            1
+ *   25  the text ends inside a record                      last line + 1   1
+ *   26  a column that must be blank is not                 line            that column
+ *       a field that must be 0 or blank is another number  line            its first column
+ *   27  Data: a count is under its least value             line            its first column
+ *   28  the records up to this one have over 7,998 words   line            1
+ *   29  block_length is less than the block needs          bytes needed
+ *   30  text_length is over 65,536
+ *
+ * Tried in this order: 30, then line by line, and at the end 21, then 29; the first that holds is the answer.
+ * Blank lines outside of records: 20.
+ * A record's first line: 20, fields 1 to 12 by 22, 23, then by kind
+ *   Catalogue: fields 13 to 20, each by 22 and 26; then 24, 28.
+ *   Header: fields 13 to 15 by 22; fields 16 to 20, each by 22 and 26; then 24, 28.
+ *   Data: fields 13 to 16 by 22; 27; fields 17 on, as far as LPROL goes, by 22; columns after them by 26; then 28, 24.
+ * Its later lines: 25, 20, fields by 22, columns after them or after a card by 26.
+ * Where several places of a line are wrong in the same way, b is the first of them.
+ * So a call with block_length 0 asks how many bytes an accepted text needs.
+ * Bytes of the block past those written stay as they are.
+ */
+uint64_t cedar_to_block(const uint8_t *text, size_t text_length, uint8_t *block, size_t block_length);
 
 /*
  * Finds the data volume prefix of an instrument, given as word 3 of its records, 0 to 65,535.

@@ -3,6 +3,7 @@ ghost use mathlib.Core.Path.{_≡_};
 ghost use Rattle.units.specs.Answers.{packedOf};
 ghost use Rattle.cedar.specs.Calls.{judgeAnswer, prefixAnswer, returned, converted};
 ghost use Rattle.lines.specs.Text.{toLines};
+ghost use Rattle.text.specs.Block.{toBlock};
 
 // uint64_t cedar_judge(const uint8_t *block, size_t length);
 #[no_mangle]
@@ -29,4 +30,13 @@ pub extern "C" fn cedar_to_lines(block: &[u8], text: &mut [u8]) -> u64
 {
     let lined = lines::to_lines(block, text);
     units::pack(lines::numbers(lined))
+}
+
+// uint64_t cedar_to_block(const uint8_t *text, size_t text_length, uint8_t *block, size_t block_length);
+#[no_mangle]
+pub extern "C" fn cedar_to_block(text: &[u8], block: &mut [u8]) -> u64
+    ensures { λ r. ⌜ returned r (now (block .exit)) ≡ converted (toBlock (now (text .entry)) (now (block .entry))) ⌝ }
+{
+    let blocked = text::to_block(text, block);
+    units::pack(text::numbers(blocked))
 }
