@@ -9,6 +9,7 @@ ghost use mathlib.Core.List.{_++_};
 ghost use Prim.Native.Nat.{_+_, _*_, _^_, _≤_, _<_};
 ghost use lib.ListN.{length, take};
 ghost use Rattle.units.specs.Answers.{answer, passed, onward, Packs};
+ghost use Rattle.record.specs.Judging.{passing, within};
 ghost use Rattle.columns.specs.Columns.{badColumn, inkAfter, blankAfter, blankField, columnOf, number, numbers, zeroField, zeros};
 ghost use Rattle.columns.specs.Cases.{flawOf, checkedOf};
 
@@ -32,23 +33,22 @@ pub enum Checked {
     Flawed(Flaw),
 }
 
-// The first column that is past 120 or holds a byte other than 32 to 126; 0 where there is none.
-pub fn bad_column(line: &[u8]) -> Bytes
+// The first column that is past 120 or holds a byte other than 32 to 126, of a line that begins with so many that are; 0 where there is none.
+pub fn bad_column(line: &[u8], plain: Bytes) -> Bytes
+    requires { ⌜ plain .0 ≡ passing (within 32 126) (now line) ⌝ }
     ensures { λ r. ⌜ r .0 ≡ badColumn 1 (now (line .entry)) ⌝ }
 {
-    let mut i = 0;
-    while i < line.len() {
-        let column = i + 1;
-        if 120 < column {
-            return Bytes(column);
+    let size = line.len();
+    let good = plain.0;
+    if 120 <= good {
+        if 120 < size {
+            return Bytes(121);
         }
-        if line[i] < 32 {
-            return Bytes(column);
-        }
-        if 126 < line[i] {
-            return Bytes(column);
-        }
-        i = column;
+        return Bytes(0);
+    }
+    if good < size {
+        let column = good + 1;
+        return Bytes(column);
     }
     Bytes(0)
 }

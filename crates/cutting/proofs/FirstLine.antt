@@ -2,16 +2,17 @@
 use mathlib.Core.Path.{_≡_, refl, sym, ap, _∙_}
 use mathlib.Core.Bool.{Bool, true, false, _&&_}
 use mathlib.Core.List.{List, [], _∷_}
-use Prim.Native.Nat.{ℕ, suc, _+_, _-_, _≤_, _<_}
+use Prim.Native.Nat.{ℕ, zero, suc, _+_, _-_, _≤_, _<_}
 use native.Mathlib.Omega.{arith}
 use native.Mathlib.Numerals.{add-one}
-use lib.Dec.{ltb, eqb}
+use lib.Dec.{ltb, leb, eqb}
 use lib.ListN.{length, getD, take, drop}
 use lib.Seq.{drop-cons, drop-drop, getD-drop}
-use borrow.Author.Tests.{lt-ltb, le-ltb, ne-eqb, eqb-true}
+use borrow.Author.Tests.{lt-ltb, le-ltb, ne-eqb, eqb-true, leb-true}
 use Rattle.units.specs.Choice.{if_then_else_}
 use Rattle.units.proofs.Verdicts.{and-on}
-use Rattle.cutting.specs.Cutting.{onto, linesIn, endLength}
+use Rattle.record.specs.Judging.{passing, within}
+use Rattle.cutting.specs.Cutting.{onto, linesIn, endLength, plainIn}
 
 -- the first line's length, and its length with its end
 unfoldable pub lineLength : List ℕ → ℕ
@@ -81,3 +82,46 @@ cut-at t at end next h e n =
     let l : lineLength (drop at t) ≡ end - at = omega arith in
     let m : drop (lineStep (drop at t)) (drop at t) ≡ drop next t = drop-drop (lineStep (drop at t)) at t ∙ ap (λ j. drop j t) (sym n) in
     k ∙ cc
+
+-- a plain byte ends no line
+plain-on : (b : ℕ) (t : List ℕ) → within 32 126 b ≡ true → endLength (b ∷ t) ≡ 0
+unfolding endLength
+plain-on b t e =
+    let low = leb-true 32 b (and-on (leb 32 b) (leb b 126) e .0) in
+    simp (ne-eqb b 10 (λ x. omega arith), ne-eqb b 13 (λ x. omega arith))
+
+-- the plain bytes that a text begins with are of its first line
+pub plain-skip : (l : List ℕ) → (plainIn l + lineLength (drop (plainIn l) l) ≡ lineLength l) × (plainIn l + lineStep (drop (plainIn l) l) ≡ lineStep l)
+unfolding passing lineLength lineStep
+plain-skip [] = (omega arith, omega arith)
+plain-skip (b ∷ t) = by (within 32 126 b) refl (plain-skip t)
+  where
+    by : (s : Bool) → within 32 126 b ≡ s → (plainIn t + lineLength (drop (plainIn t) t) ≡ lineLength t) × (plainIn t + lineStep (drop (plainIn t) t) ≡ lineStep t) →
+        let n = if s then suc (plainIn t) else 0 in (n + lineLength (drop n (b ∷ t)) ≡ lineLength (b ∷ t)) × (n + lineStep (drop n (b ∷ t)) ≡ lineStep (b ∷ t))
+    by true e ih = let z = plain-on b t e in (simp z (omega (arith, ih .0)), simp z (omega (arith, ih .1)))
+    by false e ih = (omega arith, omega arith)
+
+-- as many bytes do
+pub plain-take : (m : ℕ) (l : List ℕ) → plainIn l ≤ m → plainIn (take m l) ≡ plainIn l
+unfolding passing
+plain-take zero [] h = refl
+plain-take zero (b ∷ t) h = omega arith
+plain-take (suc m) [] h = refl
+plain-take (suc m) (b ∷ t) h = by (within 32 126 b) (plain-take m t) h
+  where
+    by : (s : Bool) → (plainIn t ≤ m → plainIn (take m t) ≡ plainIn t) → (if s then suc (plainIn t) else 0) ≤ suc m →
+        (if s then suc (plainIn (take m t)) else 0) ≡ (if s then suc (plainIn t) else 0)
+    by true ih g = ap suc (ih (omega arith))
+    by false ih g = refl
+
+-- the first line, found from behind its plain bytes
+module _ (t : List ℕ) (at plain end next : ℕ) (p : plain ≡ plainIn (drop at t)) (behind : at + plain ≤ end) where
+  pub cut-behind : at < length t → end ≡ at + plain + lineLength (drop (at + plain) t) → next ≡ at + plain + lineStep (drop (at + plain) t) →
+      linesIn (drop at t) ≡ take (end - at) (drop at t) ∷ linesIn (drop next t)
+  cut-behind h e n =
+      let same : drop (plainIn (drop at t)) (drop at t) ≡ drop (at + plain) t = rw p (drop-drop (plainIn (drop at t)) at t) in
+      let s = plain-skip (drop at t) in
+      cut-at t at end next h (omega (arith, s .0, ap lineLength same)) (omega (arith, s .1, ap lineStep same))
+
+  pub plain-line : plain ≡ plainIn (take (end - at) (drop at t))
+  plain-line = p ∙ sym (plain-take (end - at) (drop at t) (omega arith))

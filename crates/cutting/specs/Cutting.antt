@@ -6,6 +6,8 @@ use mathlib.Core.Bool.{_&&_}
 use lib.Dec.{eqb}
 use lib.ListN.{length, getD, take, drop}
 use Rattle.units.specs.Choice.{if_then_else_}
+use Rattle.record.specs.Judging.{passing, within}
+use Rattle.cutting.specs.declared.Cut.{Cut}
 
 -- a byte in front of the first line, or a line by itself: the end of the text ends a line "if it has a byte"
 unfoldable pub onto : ℕ → List (List ℕ) → List (List ℕ)
@@ -25,6 +27,10 @@ unfoldable pub endLength : List ℕ → ℕ
 endLength [] = 0
 endLength (b ∷ t) = if eqb b 10 then 1 else if eqb b 13 && eqb (getD t 0 0) 10 then 2 else 0
 
+-- how many bytes "are 32 to 126" before the first that is not
+abbrev pub plainIn : List ℕ → ℕ
+plainIn l = passing (within 32 126) l
+
 -- the first line from place `at` on is the bytes before `end`, and the other lines begin at `next`
 pub record LineAt (t : List ℕ) (at end next : ℕ) : Type 0 where
   pub cut : linesIn (drop at t) ≡ take (end - at) (drop at t) ∷ linesIn (drop next t)
@@ -32,3 +38,8 @@ pub record LineAt (t : List ℕ) (at end next : ℕ) : Type 0 where
   pub ahead : end ≤ next
   pub onward : at < next
   pub inside : next ≤ length t
+
+-- such a cut, with the plain bytes that the line begins with
+pub record CutAt (t : List ℕ) (at : ℕ) (c : Cut) : Type 0 where
+  pub line : LineAt t at (c .end .0) (c .next .0)
+  pub plain : c .plain .0 ≡ plainIn (take (c .end .0 - at) (drop at t))

@@ -11,6 +11,7 @@ ghost use lib.ListN.{length, getD, take, drop, replicate};
 ghost use lib.Seq.{slice};
 ghost use Rattle.units.specs.Answers.{onward};
 ghost use Rattle.words.specs.Words.{wordsOf};
+ghost use Rattle.record.specs.Judging.{passing, within};
 ghost use Rattle.lines.specs.Lines.{part, times, plan};
 ghost use Rattle.field.specs.Reading.{columns};
 ghost use Rattle.columns.specs.Cases.{checkedOf};
@@ -438,19 +439,20 @@ fn open_line(p: Plan, num: Lines, so: Words, line: &[u8], row: &mut [u16], block
     first_line(num, so, line, row, block)
 }
 
-// Any line.
+// Any line, which begins with so many plain bytes.
 pub fn read_line(
     plan: Plan,
     num: Lines,
     so: Words,
     line: &[u8],
+    plain: Bytes,
     row: &mut [u16],
     block: &mut [u8],
 ) -> Step
-    requires { ⌜ (length (now row) ≡ 20) × (so .0 < 2 ^ 22) ⌝ }
+    requires { ⌜ (length (now row) ≡ 20) × (so .0 < 2 ^ 22) × (plain .0 ≡ passing (within 32 126) (now line)) ⌝ }
     ensures { λ r. ⌜ Stepped (so .0) (now (block .entry)) (lineStep (num .0) (so .0) (toCome plan) (now (line .entry))) (now (block .exit)) r ⌝ }
 {
-    let column = columns::bad_column(line);
+    let column = columns::bad_column(line, plain);
     if 0 < column.0 {
         return Step::Refused(Flaw::Byte(num, column));
     }

@@ -56,7 +56,8 @@ fn read_lines(text: &[u8], block: &mut [u8]) -> Content
         let cut = cutting::next_line(text, Bytes(at));
         let end = cut.end.0;
         let next = cut.next.0;
-        match reading::read_line(plan, Lines(num), so, &text[at..end], &mut row, block) {
+        let plain = Bytes(cut.plain.0);
+        match reading::read_line(plan, Lines(num), so, &text[at..end], plain, &mut row, block) {
             Step::Refused(f) => return Content::Flawed(f),
             Step::Next(p, n) => {
                 plan = p;

@@ -4,20 +4,32 @@ use mathlib.Core.List.{[]}
 use Prim.Native.Nat.{ℕ, _+_, _-_, _≤_, _<_}
 use native.Mathlib.Omega.{arith}
 use borrow.Author.Needs.{needs}
-use lib.ListN.{length, drop, drop-of-length-le}
+use lib.ListN.{length, drop, drop-of-length-le, length-drop}
+use Rattle.record.specs.Judging.{within}
+use Rattle.record.proofs.Scan.{scan-le}
 use Rattle.cutting.specs.Cutting.{endLength}
-use Rattle.cutting.proofs.FirstLine.{lineLength, lineStep, at-end, not-end, cut-at}
+use Rattle.cutting.proofs.FirstLine.{lineLength, lineStep, at-end, not-end, cut-behind, plain-line}
 use Rattle.cutting.proofs.next_line.Statement.{statement}
 use Rattle.cutting.proofs.next_line.Tie as tie
 
 abbrev Inv-loop : tie.InvT-loop
-Inv-loop text i₀ i = (i₀ ≤ i) × (i ≤ length text) × (i + lineLength (drop i text) ≡ i₀ + lineLength (drop i₀ text)) × (i + lineStep (drop i text) ≡ i₀ + lineStep (drop i₀ text))
+Inv-loop text plain i₀ i = (i₀ ≤ i) × (i ≤ length text) × (i + lineLength (drop i text) ≡ i₀ + lineLength (drop i₀ text)) × (i + lineStep (drop i text) ≡ i₀ + lineStep (drop i₀ text))
 
 abbrev μ-loop : tie.MeasureT-loop
-μ-loop text i₀ i = length text - i
+μ-loop text plain i₀ i = length text - i
+
+-- the plain bytes are of the text
+fits : (c : tie.After-plain-bytes Inv-loop μ-loop) → c .before .before .args .at .0 + c .plain-bytes .result ≤ length (now (c .before .before .args .text))
+fits c = let a = c .before .before .args in omega (arith, c .before .before .pre, c .plain-bytes .ensures, scan-le (within 32 126) (drop (a .at .0) (now (a .text))), length-drop (a .at .0) (now (a .text)))
+
+plain-bytes-requires : tie.Need-plain-bytes-requires Inv-loop μ-loop
+plain-bytes-requires c κs = omega (arith, c .before .pre)
+
+add-i : tie.Need-add-i Inv-loop μ-loop
+add-i c = omega (arith, fits (c .before))
 
 loop-holds : tie.Need-loop-holds Inv-loop μ-loop
-loop-holds c = (omega arith, omega (arith, c .before .pre), refl, refl)
+loop-holds c = (omega arith, fits (c .before), refl, refl)
 
 end-length-requires : tie.Need-end-length-requires Inv-loop μ-loop
 end-length-requires c κs = search needs
@@ -26,39 +38,45 @@ add-next : tie.Need-add-next Inv-loop μ-loop
 add-next c = search needs
 
 returns : tie.Need-returns Inv-loop μ-loop
-returns c = let l = c .before .before .before .loop in let s = c .before .before .before .before .before in let t = now (s .args .text) in
+returns c = let l = c .before .before .before .loop in let s = c .before .before .before .before .before .before .before in let t = now (s .args .text) in
     let p : 0 < endLength (drop (l .i) t) = omega arith in
     let q = at-end (drop (l .i) t) p in
     record {
-      cut = cut-at t (s .args .at .0) (l .i) (l .i + c .before .end-length .result) (s .pre) (omega (arith, q .0)) (omega (arith, q .1));
-      within = omega arith;
-      ahead = omega arith;
-      onward = omega arith;
-      inside = omega arith;
+      line = record {
+        cut = cut-behind t (s .args .at .0) (c .before .before .before .before .before .plain-bytes .result) (l .i) (l .i + c .before .end-length .result) (c .before .before .before .before .before .plain-bytes .ensures) (l .inv .0) (s .pre) (omega (arith, q .0)) (omega (arith, q .1));
+        within = omega arith;
+        ahead = omega arith;
+        onward = omega arith;
+        inside = omega arith;
+      };
+      plain = plain-line t (s .args .at .0) (c .before .before .before .before .before .plain-bytes .result) (l .i) (l .i + c .before .end-length .result) (c .before .before .before .before .before .plain-bytes .ensures) (l .inv .0);
     }
 
-add-i : tie.Need-add-i Inv-loop μ-loop
-add-i c = search needs
+add-i-2 : tie.Need-add-i-2 Inv-loop μ-loop
+add-i-2 c = search needs
 
 loop-less : tie.Need-loop-less Inv-loop μ-loop
 loop-less c = search needs
 
 loop-again : tie.Need-loop-again Inv-loop μ-loop
-loop-again c = let l = c .before .before .before .loop in let t = now (c .before .before .before .before .before .args .text) in
+loop-again c = let l = c .before .before .before .loop in let t = now (c .before .before .before .before .before .before .before .args .text) in
     let z : endLength (drop (l .i) t) ≤ 0 = omega arith in
     let q = not-end t (l .i) (c .before .before .loop-test .taken) z in
     omega (arith, q .0, q .1)
 
 returns-2 : tie.Need-returns-2 Inv-loop μ-loop
 unfolding lineLength lineStep
-returns-2 c = let l = c .before .loop in let s = c .before .before .before in let t = now (s .args .text) in
+returns-2 c = let l = c .before .loop in let s = c .before .before .before .before .before in let t = now (s .args .text) in
     let d : drop (l .i) t ≡ [] = drop-of-length-le t (c .loop-test .left) in
     record {
-      cut = cut-at t (s .args .at .0) (l .i) (l .i) (s .pre) (omega (arith, ap lineLength d)) (omega (arith, ap lineStep d));
-      within = omega arith;
-      ahead = omega arith;
-      onward = omega arith;
-      inside = omega arith;
+      line = record {
+        cut = cut-behind t (s .args .at .0) (c .before .before .before .plain-bytes .result) (l .i) (l .i) (c .before .before .before .plain-bytes .ensures) (l .inv .0) (s .pre) (omega (arith, ap lineLength d)) (omega (arith, ap lineStep d));
+        within = omega arith;
+        ahead = omega arith;
+        onward = omega arith;
+        inside = omega arith;
+      };
+      plain = plain-line t (s .args .at .0) (c .before .before .before .plain-bytes .result) (l .i) (l .i) (c .before .before .before .plain-bytes .ensures) (l .inv .0);
     }
 
 pub next-line-spec : {M : Type 1} → statement M
@@ -67,11 +85,13 @@ next-line-spec =
     (tie.spec
     Inv-loop
     μ-loop
+    plain-bytes-requires
+    add-i
     loop-holds
     end-length-requires
     add-next
     returns
-    add-i
+    add-i-2
     loop-less
     loop-again
     returns-2)

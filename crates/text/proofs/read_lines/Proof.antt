@@ -32,7 +32,7 @@ others c = linesIn (drop (c .next-line .result .next .0) (now (c .before .before
 -- what was to be read before the line is the whole
 before : (c : tie.After-next-line Inv-loop μ-loop) → let l = c .before .before .loop in
     kept (l .so .0) (l .block) (readLines (l .num) (l .so .0) (toCome (l .plan)) (line c ∷ others c)) ≡ kept 0 (now (c .before .before .before .before .before .before .args .block)) (readLines 1 0 [] (linesIn (now (c .before .before .before .before .before .before .args .text))))
-before c = let l = c .before .before .loop in ap (λ x. kept (l .so .0) (l .block) (readLines (l .num) (l .so .0) (toCome (l .plan)) x)) (sym (c .next-line .ensures .cut)) ∙ l .inv .same
+before c = let l = c .before .before .loop in ap (λ x. kept (l .so .0) (l .block) (readLines (l .num) (l .so .0) (toCome (l .plan)) x)) (sym (c .next-line .ensures .line .cut)) ∙ l .inv .same
 
 cards-only-requires : tie.Need-cards-only-requires Inv-loop μ-loop
 cards-only-requires c κs = tt
@@ -44,28 +44,28 @@ next-line-requires : tie.Need-next-line-requires Inv-loop μ-loop
 next-line-requires c κs = search needs
 
 sub-read-line : tie.Need-sub-read-line Inv-loop μ-loop
-sub-read-line c = omega (arith, c .next-line .ensures .within)
+sub-read-line c = omega (arith, c .next-line .ensures .line .within)
 
 part-read-line-start : tie.Need-part-read-line-start Inv-loop μ-loop
-part-read-line-start c = c .next-line .ensures .within
+part-read-line-start c = c .next-line .ensures .line .within
 
 part-read-line-end : tie.Need-part-read-line-end Inv-loop μ-loop
-part-read-line-end c = omega (arith, c .next-line .ensures .ahead, c .next-line .ensures .inside)
+part-read-line-end c = omega (arith, c .next-line .ensures .line .ahead, c .next-line .ensures .line .inside)
 
 slice-aggregate-read-line : tie.Need-slice-aggregate-read-line Inv-loop μ-loop
 slice-aggregate-read-line c = sym (c .before .before .before .before .loop .inv .row-long)
 
 read-line-requires : tie.Need-read-line-requires Inv-loop μ-loop
-read-line-requires c κs = let g = c .before .before .before .before .before .loop .inv in (g .row-long, omega (arith, g .lines-most, g .words-most))
+read-line-requires c κs = let g = c .before .before .before .before .before .loop .inv in (g .row-long, omega (arith, g .lines-most, g .words-most), c .before .before .before .next-line .ensures .plain)
 
 enum-known-f : tie.Need-enum-known-f Inv-loop μ-loop
 enum-known-f c = search needs
 
 same-length : tie.Need-same-length Inv-loop μ-loop
-same-length c = let l = c .before .before .before .before .before .before .before .before .before .before .before .before .loop in let kept-length : length (c .before .before .before .before .before .before .read-line .last .1 .1 .1 .1 .1 .0) ≡ length (l .block) = c .before .before .before .before .before .before .read-line .kept .1 .1 .1 .1 .1 .0 in kept-length ∙ l .inv .length-kept
+same-length c = let l = c .before .before .before .before .before .before .before .before .before .before .before .before .loop in let kept-length : length (c .before .before .before .before .before .before .read-line .last .1 .1 .1 .1 .1 .1 .0) ≡ length (l .block) = c .before .before .before .before .before .before .read-line .kept .1 .1 .1 .1 .1 .1 .0 in kept-length ∙ l .inv .length-kept
 
 returns : tie.Need-returns Inv-loop μ-loop
-returns c = let l = c .before .before .before .before .before .before .before .before .before .before .before .before .loop in let b = c .before .before .before .before .before .before .read-line .last .1 .1 .1 .1 .1 .0 in
+returns c = let l = c .before .before .before .before .before .before .before .before .before .before .before .before .loop in let b = c .before .before .before .before .before .before .read-line .last .1 .1 .1 .1 .1 .1 .0 in
     sym (end (l .num) (l .so .0) (toCome (l .plan)) (line (c .before .before .before .before .before .before .before .before .before .before)) (others (c .before .before .before .before .before .before .before .before .before .before)) (l .block) b (c .before .f .given .0 .0) (ap (stepOf b) (sym (c .before .f .given .1)) ∙ c .before .before .before .before .before .before .read-line .ensures .is)) ∙ before (c .before .before .before .before .before .before .before .before .before .before)
 
 enum-known-p : tie.Need-enum-known-p Inv-loop μ-loop
@@ -75,17 +75,17 @@ add-num : tie.Need-add-num Inv-loop μ-loop
 add-num c = let g = c .before .before .before .before .before .before .before .before .before .before .before .before .loop .inv in omega (arith, g .lines-most, c .before .before .before .before .before .before .before .before .before .before .before .loop-test .taken, c .before .before .before .before .before .before .before .before .before .before .before .before .before .before .before .before .pre)
 
 loop-less : tie.Need-loop-less Inv-loop μ-loop
-loop-less c = omega (arith, c .before .before .before .before .before .before .before .before .before .before .next-line .ensures .onward, c .before .before .before .before .before .before .before .before .before .before .next-line .ensures .inside)
+loop-less c = omega (arith, c .before .before .before .before .before .before .before .before .before .before .next-line .ensures .line .onward, c .before .before .before .before .before .before .before .before .before .before .next-line .ensures .line .inside)
 
 loop-again : tie.Need-loop-again Inv-loop μ-loop
-loop-again c = let l = c .before .before .before .before .before .before .before .before .before .before .before .before .loop in let g = l .inv in let b = c .before .before .before .before .before .before .read-line .last .1 .1 .1 .1 .1 .0 in let p = c .before .p .given .0 .0 in let n = c .before .p .given .0 .1 .0 in
-    let kept-block : length b ≡ length (l .block) = c .before .before .before .before .before .before .read-line .kept .1 .1 .1 .1 .1 .0 in
-    let kept-row : length (c .before .before .before .before .before .before .read-line .last .1 .1 .1 .1 .0) ≡ length (l .row) = c .before .before .before .before .before .before .read-line .kept .1 .1 .1 .1 .0 in
+loop-again c = let l = c .before .before .before .before .before .before .before .before .before .before .before .before .loop in let g = l .inv in let b = c .before .before .before .before .before .before .read-line .last .1 .1 .1 .1 .1 .1 .0 in let p = c .before .p .given .0 .0 in let n = c .before .p .given .0 .1 .0 in
+    let kept-block : length b ≡ length (l .block) = c .before .before .before .before .before .before .read-line .kept .1 .1 .1 .1 .1 .1 .0 in
+    let kept-row : length (c .before .before .before .before .before .before .read-line .last .1 .1 .1 .1 .1 .0) ≡ length (l .row) = c .before .before .before .before .before .before .read-line .kept .1 .1 .1 .1 .1 .0 in
     record {
       same = sym (turn (l .num) (l .so .0) (toCome (l .plan)) (line (c .before .before .before .before .before .before .before .before .before .before)) (others (c .before .before .before .before .before .before .before .before .before .before)) (l .block) b p n (ap (stepOf b) (sym (c .before .p .given .1)) ∙ c .before .before .before .before .before .before .read-line .ensures .is)) ∙ before (c .before .before .before .before .before .before .before .before .before .before);
       length-kept = kept-block ∙ g .length-kept;
       row-long = kept-row ∙ g .row-long;
-      lines-most = omega (arith, g .lines-most, c .before .before .before .before .before .before .before .before .before .before .next-line .ensures .onward);
+      lines-most = omega (arith, g .lines-most, c .before .before .before .before .before .before .before .before .before .before .next-line .ensures .line .onward);
       words-most = omega (arith, g .words-most, near-next (l .so .0) p n (c .before .before .before .before .before .before .read-line .result) (c .before .p .given .1) (c .before .before .before .before .before .before .read-line .ensures .near));
     }
 
