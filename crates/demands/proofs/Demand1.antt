@@ -11,6 +11,7 @@ use Rattle.units.specs.Choice.{if_then_else_}
 use Rattle.units.specs.Answers.{answer, answered, Verdict, passed, refused, onward}
 use Rattle.units.proofs.Packing.{taken-apart}
 use Rattle.units.proofs.Verdicts.{and-on}
+use Rattle.words.specs.Words.{bytesOf, framed}
 use Rattle.words.specs.Outcomes.{written, leaves}
 use Rattle.block.specs.Judging.{judged}
 use Rattle.block.specs.Records.{recordsOf}
@@ -21,7 +22,9 @@ use Rattle.prefix.specs.declared.Letters.{Letters}
 use Rattle.prefix.specs.LookUp.{beside}
 use Rattle.prefix.specs.Table.{table, dashes, prefixOf}
 use Rattle.cedar.specs.Calls.{prefixAnswer}
-use Rattle.demands.specs.Demand1.{JudgeAnswers, PrefixAnswers, LinesAnswers}
+use Rattle.text.specs.Block.{readText, toBlock}
+use Rattle.text.proofs.Known.{answer-told}
+use Rattle.demands.specs.Demand1.{JudgeAnswers, PrefixAnswers, LinesAnswers, BlockAnswers}
 
 pub judge-answers : JudgeAnswers
 judge-answers block bytes =
@@ -82,3 +85,9 @@ unfolding toLines
 lines-answers block text bytes =
     let t = outcome-told block text bytes in
     (t .0, taken-apart (toLines block text .answer) (t .1), kept text (onward (judged block) (λ _. passed (textOf (recordsOf block)))))
+
+pub block-answers : BlockAnswers
+unfolding toBlock
+block-answers text block =
+    let t = answer-told text block in
+    (t .listed, taken-apart (toBlock text block .answer) (t .packs), kept block (onward (readText text) (λ ws. passed (bytesOf (framed ws)))))

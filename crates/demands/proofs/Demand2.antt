@@ -1,10 +1,101 @@
 -- Demand 2 holds.
-use mathlib.Core.Path.{sym, _∙_}
-use Rattle.block.proofs.Exact.{only-good, every-good, its-records}
-use Rattle.demands.specs.Demand2.{AcceptedExactly, OneWay}
+use mathlib.Core.Path.{_≡_, sym, ap, _∙_}
+use mathlib.Core.List.{List}
+use Prim.Native.Nat.{ℕ, _≤_}
+use borrow.Author.Tests.{le-ltb}
+use lib.ListN.{length, drop}
+use lib.Seq.{take-append-seam}
+use Rattle.units.specs.Answers.{passed}
+use Rattle.words.specs.Words.{wordsOf, framed, joined}
+use Rattle.words.specs.Outcomes.{written}
+use Rattle.words.proofs.Laws.{words-bytes}
+use Rattle.block.specs.Judging.{inner, judged}
+use Rattle.block.specs.Records.{recordsOf}
+use Rattle.block.proofs.Exact.{only-good, every-good, its-records, frame-of}
+use Rattle.lines.specs.Text.{textOf, toLines}
+use Rattle.lines.proofs.Outcome.{when-accepted}
+use Rattle.text.specs.Block.{readText, toBlock}
+use Rattle.demands.specs.Demand2.{AcceptedExactly, OneWay, bytesIn, wrote, blockFrom, standard, LinesRead, BlockLinesBlock, LinesBlockLines, StandardRead, StandardStays, OneStandard}
+use Rattle.demands.proofs.Standard.{text-back}
+use Rattle.demands.proofs.Sound.{text-gives-block}
 
 pub accepted-exactly : AcceptedExactly
 accepted-exactly b bytes = (λ k e. only-good b k bytes e, λ rs good. every-good b rs good)
 
 pub one-way : OneWay
 one-way b rs ss good also = sym (its-records b rs good) ∙ its-records b ss also
+
+pub lines-read : LinesRead
+lines-read = text-back
+
+-- ---- what the calls write
+
+bytes-in : (bytes out : List ℕ) → bytesIn (wrote bytes out) ≡ bytes
+bytes-in bytes out = take-append-seam bytes (drop (length bytes) out)
+
+with-room : (bytes out : List ℕ) → length bytes ≤ length out → written out (passed bytes) ≡ wrote bytes out
+unfolding written
+with-room bytes out h = simp (le-ltb (length out) (length bytes) h)
+
+lines-written : (b text : List ℕ) (k : ℕ) → judged b ≡ passed k → length (textOf (recordsOf b)) ≤ length text → toLines b text ≡ wrote (textOf (recordsOf b)) text
+lines-written b text k e h = when-accepted b text k e ∙ with-room (textOf (recordsOf b)) text h
+
+block-written : (t out ws : List ℕ) → readText t ≡ passed ws → length (blockFrom ws) ≤ length out → toBlock t out ≡ wrote (blockFrom ws) out
+unfolding toBlock
+block-written t out ws e h = rw e (with-room (blockFrom ws) out h)
+
+-- ---- the round trips
+
+pub block-lines-block : BlockLinesBlock
+block-lines-block b text out bytes a room-text room-out =
+    let g = only-good b (a .count) bytes (a .is) .0 in
+    let rs = recordsOf b in
+    let l = lines-written b text (a .count) (a .is) room-text in (
+      l,
+      ap (λ w. toBlock (bytesIn w) out) l
+          ∙ ap (λ s. toBlock s out) (bytes-in (textOf rs) text)
+          ∙ block-written (textOf rs) out (joined rs) (text-back rs (g .each) (g .some) (g .most)) (rw (← g .bytes) room-out)
+          ∙ ap (λ c. wrote c out) (sym (g .bytes)),
+    )
+
+-- a block tells its words
+words-told : (ws vs : List ℕ) → blockFrom ws ≡ blockFrom vs → ws ≡ vs
+words-told ws vs e =
+    sym (frame-of ws .between) ∙ ap inner (sym (words-bytes (framed ws)) ∙ ap wordsOf e ∙ words-bytes (framed vs)) ∙ frame-of vs .between
+
+-- of an accepted text
+pub standard-read : StandardRead
+standard-read t ws e =
+    let rs = text-gives-block t ws e .0 in
+    let g = text-gives-block t ws e .1 in
+    ap (λ l. readText (textOf l)) (its-records (blockFrom ws) rs g)
+    ∙ text-back rs (g .each) (g .some) (g .most)
+    ∙ ap (λ l. passed l) (words-told (joined rs) ws (sym (g .bytes)))
+
+pub lines-block-lines : LinesBlockLines
+lines-block-lines t ws out text e room-out room-text =
+    let rs = text-gives-block t ws e .0 in
+    let b = blockFrom ws in
+    let block = block-written t out ws e room-out in
+    let lines =
+    ap (λ w. toLines (bytesIn w) text) block
+    ∙ ap (λ c. toLines c text) (bytes-in b out)
+    ∙ lines-written b text (length rs) (every-good b rs (text-gives-block t ws e .1)) room-text in (
+      block,
+      lines,
+      ap (λ w. toBlock (bytesIn w) out) lines
+          ∙ ap (λ s. toBlock s out) (bytes-in (standard ws) text)
+          ∙ block-written (standard ws) out ws (standard-read t ws e) room-out
+          ∙ sym block,
+    )
+
+pub standard-stays : StandardStays
+standard-stays t ws e vs f =
+    let same : vs ≡ ws = cc (standard-read t ws e) in
+    ap standard same
+
+pub one-standard : OneStandard
+one-standard t u ws vs e f = (ap (λ c. textOf (recordsOf c)), λ s. ap blockFrom (same s))
+  where
+    same : standard ws ≡ standard vs → ws ≡ vs
+    same s = cc (standard-read t ws e, standard-read u vs f, ap readText s)

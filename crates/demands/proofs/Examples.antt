@@ -7,16 +7,23 @@ use Rattle.block.specs.Judging.{wrongSize, walk, judged}
 use Rattle.record.specs.Lines.{lineCount}
 use Rattle.block.specs.Records.{cut, recordsOf}
 use Rattle.field.specs.Writing.{decimal, fieldOf}
+use Rattle.field.specs.Reading.{readField, columns}
+use Rattle.columns.specs.Columns.{number}
+use Rattle.report.specs.Text.{bytesFrom}
 use Rattle.lines.specs.Lines.{fieldsOf, part, times, plan, laid, linesOf}
 use Rattle.words.specs.Outcomes.{written}
 use Rattle.lines.specs.Text.{ended, textOf, toLines}
 use Rattle.prefix.specs.LookUp.{beside}
 use Rattle.prefix.specs.Table.{table}
-use Rattle.demands.specs.Examples.{blockRows, blockK, blockLeast, BlockRows, prefixRows, PrefixRows}
+use Rattle.demands.specs.Examples.{blockRows, blockK, blockLeast, BlockRows, fieldRows, FieldRows, prefixRows, PrefixRows}
 
 pub block-rows : BlockRows
 unfolding blockRows blockK blockLeast judged wrongSize walk judgeRecord judgeCards judgeData judgeCounts wrongTotal underLeast firstNotZero firstNotCard passing wordWithin wordsOf bytesOf xorAll ones onesIn recordsOf cut toLines written textOf ended linesOf laid plan part times fieldsOf fieldOf decimal lineCount
 block-rows = refl
+
+pub field-rows : FieldRows
+unfolding fieldRows number readField columns bytesFrom
+field-rows = refl
 
 pub prefix-rows : PrefixRows
 unfolding prefixRows table beside

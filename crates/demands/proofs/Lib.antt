@@ -5,3 +5,7 @@ pub mod Lines
 pub mod ExclusiveOr
 pub mod Examples
 pub mod Agree
+pub mod Back
+pub mod FirstLine
+pub mod Standard
+pub mod Sound

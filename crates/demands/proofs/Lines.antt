@@ -33,11 +33,11 @@ text-most = text-bound
 
 -- ---- widths
 
-Narrow : ℕ → Type 0
+abbrev pub Narrow : ℕ → Type 0
 Narrow n = n ≤ 20
 
 part-narrow : (n : ℕ) → All Narrow (part n)
-unfolding part Narrow
+unfolding part
 part-narrow n = all-append Narrow (replicate (n / 20) 20) (shorter (n % 20)) (full (n / 20)) (rest (n % 20) (omega arith))
   where
     full : (k : ℕ) → All Narrow (replicate k 20)
@@ -53,17 +53,17 @@ unfolding times
 times-narrow zero n = tt
 times-narrow (suc k) n = all-append Narrow (part n) (times k (part n)) (part-narrow n) (times-narrow k n)
 
-plan-narrow : (lprol jpar mpar nrow : ℕ) → All Narrow (plan lprol jpar mpar nrow)
+pub plan-narrow : (lprol jpar mpar nrow : ℕ) → All Narrow (plan lprol jpar mpar nrow)
 unfolding plan
 plan-narrow lprol jpar mpar nrow =
     all-append Narrow (part lprol) _ (part-narrow lprol)
     (all-append Narrow (part jpar) _ (part-narrow jpar) (all-append Narrow (part jpar) _ (part-narrow jpar) (times-narrow (nrow + 1) mpar)))
 
-fields-width : (n : ℕ) (ws : List ℕ) → n ≤ 20 → length (fieldsOf (take n ws)) ≤ 120
+pub fields-width : (n : ℕ) (ws : List ℕ) → n ≤ 20 → length (fieldsOf (take n ws)) ≤ 120
 fields-width n ws h = omega (arith, length-fieldsOf (take n ws), length-take n ws)
 
 laid-width : (ns ws : List ℕ) → All Narrow ns → All (λ l. length l ≤ 120) (laid ns ws)
-unfolding laid Narrow
+unfolding laid
 laid-width [] ws h = tt
 laid-width (n ∷ ns) ws h = (fields-width n ws (h .0), laid-width ns (drop n ws) (h .1))
 

@@ -1,11 +1,13 @@
 -- Demand 1: each call ends with an accepted answer or one numbered refusal. Its numbers are the paper's, and can be taken apart again.
 use mathlib.Core.Path.{_≡_}
+use mathlib.Core.Logic.{_⊎_}
 use mathlib.Core.List.{List}
 use Prim.Native.Nat.{ℕ, _≤_}
 use Rattle.units.specs.declared.Answer.{Answer}
 use Rattle.units.specs.Answers.{packedOf, takenApart}
 use Rattle.words.specs.Words.{Below}
 use Rattle.lines.specs.Text.{toLines}
+use Rattle.text.specs.Block.{toBlock}
 use Rattle.cedar.specs.Calls.{judgeAnswer, prefixAnswer}
 
 -- the four numbers that a C caller takes out of the one it was given
@@ -26,3 +28,11 @@ LinesAnswers =
     (block text : List ℕ) → Below 256 block →
     (toLines block text .answer .n ≤ 29) × Kept (toLines block text .answer)
     × ((toLines block text .answer .n ≡ 0 → ⊥) → toLines block text .out ≡ text)
+
+-- "Order for text: 30, then line by line. ... At the end 21, then 29": rows 20 to 30; "Every refusal leaves every buffer untouched"
+abbrev pub BlockAnswers : Type 0
+BlockAnswers =
+    (text block : List ℕ) →
+    ((toBlock text block .answer .n ≡ 0) ⊎ ((20 ≤ toBlock text block .answer .n) × (toBlock text block .answer .n ≤ 30)))
+    × Kept (toBlock text block .answer)
+    × ((toBlock text block .answer .n ≡ 0 → ⊥) → toBlock text block .out ≡ block)

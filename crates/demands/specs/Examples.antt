@@ -1,8 +1,8 @@
--- Document 01, "Examples": the rows marked P that speak of blocks and their lines, and prefixes, each sort as one table.
+-- Document 01, "Examples": the rows marked P that speak of blocks and their lines, fields, and prefixes, each sort as one table.
 use Prim.Native.Nat.{ℕ}
 use Prim.Native.String.{String}
 use mathlib.Core.Path.{_≡_}
-use mathlib.Core.List.{List, [], _∷_, map}
+use mathlib.Core.List.{List, [], _∷_, _++_, map}
 use Rattle.units.specs.declared.Answer.{Answer}
 use Rattle.units.specs.Answers.{answer, Verdict, passed, refused}
 use Rattle.words.specs.Words.{bytesOf}
@@ -10,6 +10,8 @@ use Rattle.record.specs.Lines.{lineCount}
 use Rattle.block.specs.Judging.{judged}
 use Rattle.block.specs.Records.{recordsOf}
 use Rattle.lines.specs.Text.{toLines}
+use Rattle.columns.specs.Columns.{number}
+use Rattle.report.specs.Text.{text}
 use Rattle.prefix.specs.Table.{letters, prefixOf}
 use Rattle.cedar.specs.Calls.{judgeAnswer}
 
@@ -56,6 +58,25 @@ blockRows =
 -- the rows are what is found
 abbrev pub BlockRows : Type 0
 BlockRows = map (λ r. foundOf (bytesOf (r .block))) blockRows ≡ map (λ r. r .found) blockRows
+
+-- what a field is read as, where it is the second field of line 4
+abbrev pub fieldFound : String → Verdict ℕ
+fieldFound s = number 4 (text "     1" ++ text s) 1
+
+-- example 7: -32768 is the word 32768; "give 22" with the line and the field's first column
+unfoldable pub fieldRows : List (String × Verdict ℕ)
+fieldRows =
+    ("-32768", passed 32768)
+    ∷ ("032767", passed 32767)
+    ∷ ("    +5", passed 5)
+    ∷ ("-32769", refused (answer 22 4 7 0))
+    ∷ ("032768", refused (answer 22 4 7 0))
+    ∷ ("12    ", refused (answer 22 4 7 0))
+    ∷ []
+
+-- the rows are what is read
+abbrev pub FieldRows : Type 0
+FieldRows = map (λ e. fieldFound (e .0)) fieldRows ≡ map (λ e. e .1) fieldRows
 
 -- "MLH" of the listing's example; "5140 is AQF"; "7240 has no prefix. It and every unlisted code answer "---""
 unfoldable pub prefixRows : List (ℕ × String)
