@@ -1,9 +1,12 @@
 -- The promises agree.
 use mathlib.Core.Path.{_≡_, refl, sym, ap, _∙_}
+use mathlib.Core.List.{List, []}
 use Prim.Native.Nat.{ℕ}
 use lib.Dec.{eqb}
 use Rattle.units.specs.Choice.{if_then_else_}
 use Rattle.units.specs.declared.Answer.{Answer}
+use Rattle.units.specs.declared.Lines.{Lines}
+use Rattle.units.specs.declared.Bytes.{Bytes}
 use Rattle.units.specs.Answers.{Verdict, passed, refused}
 use Rattle.record.specs.declared.Fault.the-variants.{Short, Kind, Total, NotZero, Card, Counts}
 use Rattle.block.specs.declared.Judged.{Judged}
@@ -11,7 +14,23 @@ use Rattle.block.specs.declared.Judged.the-variants.{Records, Refused}
 use Rattle.block.specs.declared.Refusal.{Refusal}
 use Rattle.block.specs.declared.Refusal.the-variants.{Size, WordCount, Checksum, Record}
 use Rattle.block.specs.Cases.{refusalOf, judgedOf}
-use Rattle.demands.specs.Agree.{JudgeAgrees, CedarJudgeAgrees, StepAgrees, FindAgrees, PrefixAgrees, CedarPrefixAgrees, LinesAgree, CedarLinesAgree}
+use Rattle.lines.specs.declared.Lined.{Lined}
+use Rattle.lines.specs.declared.Lined.the-variants.{Text}
+use Rattle.lines.specs.declared.Lined.the-variants as lines
+use Rattle.lines.specs.Cases.{linedOf}
+use Rattle.columns.specs.declared.Flaw.{Flaw}
+use Rattle.columns.specs.declared.Flaw.the-variants.{Byte, NoRecord, Field, Count, Ends, NotBlank, Range, Much, Long}
+use Rattle.columns.specs.declared.Flaw.the-variants as columns
+use Rattle.columns.specs.Cases.{flawOf}
+use Rattle.text.specs.declared.Content.{Content}
+use Rattle.text.specs.declared.Content.the-variants.{Flawed}
+use Rattle.text.specs.declared.Content.the-variants as text
+use Rattle.text.specs.declared.Blocked.{Blocked}
+use Rattle.text.specs.declared.Blocked.the-variants.{Block}
+use Rattle.text.specs.declared.Blocked.the-variants as blocked
+use Rattle.text.specs.Content.{Kept, contentOf}
+use Rattle.text.specs.Cases.{blockedOf}
+use Rattle.demands.specs.Agree.{JudgeAgrees, CedarJudgeAgrees, StepAgrees, FindAgrees, PrefixAgrees, CedarPrefixAgrees, LinesAgree, CedarLinesAgree, ContentAgrees, BlockAgrees, CedarBlockAgrees}
 
 -- the case that a refusal's numbers tell
 refusalCase : Answer → Refusal
@@ -69,8 +88,94 @@ prefix-agrees instrument r s p q = same p q
 pub cedar-prefix-agrees : CedarPrefixAgrees
 cedar-prefix-agrees instrument r s p q = same p q
 
+-- the case that the numbers of block to lines tell
+linedCase : Answer → Lined
+linedCase r = if eqb (r .n) 0 then Text (record { 0 = r .a }) else if eqb (r .n) 29 then lines.Short (record { 0 = r .a }) else lines.Refused (refusalCase r)
+
+lined-back : (l : Lined) → linedCase (linedOf l) ≡ l
+unfolding linedCase refusalCase
+lined-back (Text size) = refl
+lined-back (lines.Short size) = refl
+lined-back (lines.Refused Size) = refl
+lined-back (lines.Refused WordCount) = refl
+lined-back (lines.Refused (Checksum bits)) = refl
+lined-back (lines.Refused (Record (Short k))) = refl
+lined-back (lines.Refused (Record (Kind k))) = refl
+lined-back (lines.Refused (Record (Total k))) = refl
+lined-back (lines.Refused (Record (NotZero k w))) = refl
+lined-back (lines.Refused (Record (Card k w))) = refl
+lined-back (lines.Refused (Record (Counts k w))) = refl
+
 pub lines-agree : LinesAgree
-lines-agree block text r s t u p q = let e = same p q in (ap (λ w. w .answer) e, ap (λ w. w .out) e)
+lines-agree block text r s t u p q = let e = same p q in (sym (lined-back r) ∙ ap (λ w. linedCase (w .answer)) e ∙ lined-back s, ap (λ w. w .out) e)
 
 pub cedar-lines-agree : CedarLinesAgree
 cedar-lines-agree block text r s t u p q = let e = same p q in (ap (λ w. w .number) e, ap (λ w. w .out) e)
+
+-- the case that the numbers of a text's refusal tell
+flawCase : Answer → Flaw
+flawCase r =
+    let line : Lines = record { 0 = r .a } in
+    let column : Bytes = record { 0 = r .b } in
+    if eqb (r .n) 20 then Byte line column
+    else if eqb (r .n) 21 then NoRecord
+    else if eqb (r .n) 22 then Field line column
+    else if eqb (r .n) 23 then columns.Kind line
+    else if eqb (r .n) 24 then Count line
+    else if eqb (r .n) 25 then Ends line
+    else if eqb (r .n) 26 then NotBlank line column
+    else if eqb (r .n) 27 then Range line column
+    else if eqb (r .n) 28 then Much line
+    else Long
+
+flaw-back : (f : Flaw) → flawCase (flawOf f) ≡ f
+unfolding flawCase
+flaw-back (Byte line column) = refl
+flaw-back NoRecord = refl
+flaw-back (Field line column) = refl
+flaw-back (columns.Kind line) = refl
+flaw-back (Count line) = refl
+flaw-back (Ends line) = refl
+flaw-back (NotBlank line column) = refl
+flaw-back (Range line column) = refl
+flaw-back (Much line) = refl
+flaw-back Long = refl
+
+contentCase : Verdict Kept → Content
+contentCase (passed k) = text.Records (record { 0 = k .so })
+contentCase (refused r) = Flawed (flawCase r)
+
+content-back : (b : List ℕ) (r : Content) → contentCase (contentOf b r) ≡ r
+unfolding contentCase
+content-back b (text.Records n) = refl
+content-back b (Flawed f) = ap Flawed (flaw-back f)
+
+pub content-agrees : ContentAgrees
+content-agrees text r s p q = sym (content-back [] r) ∙ ap contentCase (same p q) ∙ content-back [] s
+
+blockedCase : Answer → Blocked
+blockedCase r = if eqb (r .n) 0 then Block (record { 0 = r .a }) else if eqb (r .n) 29 then blocked.Short (record { 0 = r .a }) else blocked.Refused (flawCase r)
+
+blocked-back : (b : Blocked) → blockedCase (blockedOf b) ≡ b
+unfolding blockedCase
+blocked-back (Block size) = refl
+blocked-back (blocked.Short size) = refl
+blocked-back (blocked.Refused f) = by f ∙ ap blocked.Refused (flaw-back f)
+  where
+    by : (g : Flaw) → blockedCase (flawOf g) ≡ blocked.Refused (flawCase (flawOf g))
+    by (Byte line column) = refl
+    by NoRecord = refl
+    by (Field line column) = refl
+    by (columns.Kind line) = refl
+    by (Count line) = refl
+    by (Ends line) = refl
+    by (NotBlank line column) = refl
+    by (Range line column) = refl
+    by (Much line) = refl
+    by Long = refl
+
+pub block-agrees : BlockAgrees
+block-agrees text block r s b c p q = let e = same p q in (sym (blocked-back r) ∙ ap (λ w. blockedCase (w .answer)) e ∙ blocked-back s, ap (λ w. w .out) e)
+
+pub cedar-block-agrees : CedarBlockAgrees
+cedar-block-agrees text block r s b c p q = let e = same p q in (ap (λ w. w .number) e, ap (λ w. w .out) e)

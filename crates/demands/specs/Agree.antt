@@ -1,6 +1,6 @@
 -- Any two outcomes that a promise allows are the same: one statement for each public call.
 use mathlib.Core.Path.{_≡_}
-use mathlib.Core.List.{List}
+use mathlib.Core.List.{List, []}
 use Prim.Native.Nat.{ℕ}
 use Rattle.units.specs.Answers.{packedOf}
 use Rattle.block.specs.declared.Judged.{Judged}
@@ -13,6 +13,11 @@ use Rattle.words.specs.Outcomes.{leaves}
 use Rattle.lines.specs.declared.Lined.{Lined}
 use Rattle.lines.specs.Cases.{linedOf}
 use Rattle.lines.specs.Text.{toLines}
+use Rattle.text.specs.declared.Content.{Content}
+use Rattle.text.specs.declared.Blocked.{Blocked}
+use Rattle.text.specs.Content.{kept, contentOf}
+use Rattle.text.specs.Cases.{blockedOf}
+use Rattle.text.specs.Block.{readText, toBlock}
 use Rattle.cedar.specs.Calls.{judgeAnswer, prefixAnswer, returned, converted}
 use Rattle.prefix.specs.declared.Letters.{Letters}
 use Rattle.prefix.specs.Table.{prefixOf}
@@ -40,14 +45,30 @@ PrefixAgrees = (instrument : ℕ) (r s : Letters) → r ≡ prefixOf instrument 
 abbrev pub CedarPrefixAgrees : Type 0
 CedarPrefixAgrees = (instrument r s : ℕ) → r ≡ packedOf (prefixAnswer instrument) → s ≡ packedOf (prefixAnswer instrument) → r ≡ s
 
--- `lines::to_lines`: the answer and every byte of the text
+-- `lines::to_lines`: the answer's case and every byte of the text
 abbrev pub LinesAgree : Type 0
 LinesAgree =
     (block text : List ℕ) (r s : Lined) (t u : List ℕ) → leaves (linedOf r) t ≡ toLines block text → leaves (linedOf s) u ≡ toLines block text →
-    (linedOf r ≡ linedOf s) × (t ≡ u)
+    (r ≡ s) × (t ≡ u)
 
 -- `cedar_to_lines`
 abbrev pub CedarLinesAgree : Type 0
 CedarLinesAgree =
     (block text : List ℕ) (r s : ℕ) (t u : List ℕ) → returned r t ≡ converted (toLines block text) → returned s u ≡ converted (toLines block text) →
     (r ≡ s) × (t ≡ u)
+
+-- `text::judge`
+abbrev pub ContentAgrees : Type 0
+ContentAgrees = (text : List ℕ) (r s : Content) → contentOf [] r ≡ kept 0 [] (readText text) → contentOf [] s ≡ kept 0 [] (readText text) → r ≡ s
+
+-- `text::to_block`: the answer's case and every byte of the block
+abbrev pub BlockAgrees : Type 0
+BlockAgrees =
+    (text block : List ℕ) (r s : Blocked) (b c : List ℕ) → leaves (blockedOf r) b ≡ toBlock text block → leaves (blockedOf s) c ≡ toBlock text block →
+    (r ≡ s) × (b ≡ c)
+
+-- `cedar_to_block`
+abbrev pub CedarBlockAgrees : Type 0
+CedarBlockAgrees =
+    (text block : List ℕ) (r s : ℕ) (b c : List ℕ) → returned r b ≡ converted (toBlock text block) → returned s c ≡ converted (toBlock text block) →
+    (r ≡ s) × (b ≡ c)
