@@ -112,67 +112,56 @@ lines-agree block text r s t u p q = let e = same p q in (sym (lined-back r) ∙
 pub cedar-lines-agree : CedarLinesAgree
 cedar-lines-agree block text r s t u p q = let e = same p q in (ap (λ w. w .number) e, ap (λ w. w .out) e)
 
--- the case that the numbers of a text's refusal tell
-flawCase : Answer → Flaw
-flawCase r =
+-- the case that the numbers of lines to block tell
+blockedCase : Answer → Blocked
+blockedCase r =
     let line : Lines = record { 0 = r .a } in
     let column : Bytes = record { 0 = r .b } in
-    if eqb (r .n) 20 then Byte line column
-    else if eqb (r .n) 21 then NoRecord
-    else if eqb (r .n) 22 then Field line column
-    else if eqb (r .n) 23 then columns.Kind line
-    else if eqb (r .n) 24 then Count line
-    else if eqb (r .n) 25 then Ends line
-    else if eqb (r .n) 26 then NotBlank line column
-    else if eqb (r .n) 27 then Range line column
-    else if eqb (r .n) 28 then Much line
-    else Long
-
-flaw-back : (f : Flaw) → flawCase (flawOf f) ≡ f
-unfolding flawCase
-flaw-back (Byte line column) = refl
-flaw-back NoRecord = refl
-flaw-back (Field line column) = refl
-flaw-back (columns.Kind line) = refl
-flaw-back (Count line) = refl
-flaw-back (Ends line) = refl
-flaw-back (NotBlank line column) = refl
-flaw-back (Range line column) = refl
-flaw-back (Much line) = refl
-flaw-back Long = refl
-
-contentCase : Verdict Kept → Content
-contentCase (passed k) = text.Records (record { 0 = k .so })
-contentCase (refused r) = Flawed (flawCase r)
-
-content-back : (b : List ℕ) (r : Content) → contentCase (contentOf b r) ≡ r
-unfolding contentCase
-content-back b (text.Records n) = refl
-content-back b (Flawed f) = ap Flawed (flaw-back f)
-
-pub content-agrees : ContentAgrees
-content-agrees text r s p q = sym (content-back [] r) ∙ ap contentCase (same p q) ∙ content-back [] s
-
-blockedCase : Answer → Blocked
-blockedCase r = if eqb (r .n) 0 then Block (record { 0 = r .a }) else if eqb (r .n) 29 then blocked.Short (record { 0 = r .a }) else blocked.Refused (flawCase r)
+    if eqb (r .n) 0 then Block (record { 0 = r .a })
+    else if eqb (r .n) 20 then blocked.Refused (Byte line column)
+    else if eqb (r .n) 21 then blocked.Refused NoRecord
+    else if eqb (r .n) 22 then blocked.Refused (Field line column)
+    else if eqb (r .n) 23 then blocked.Refused (columns.Kind line)
+    else if eqb (r .n) 24 then blocked.Refused (Count line)
+    else if eqb (r .n) 25 then blocked.Refused (Ends line)
+    else if eqb (r .n) 26 then blocked.Refused (NotBlank line column)
+    else if eqb (r .n) 27 then blocked.Refused (Range line column)
+    else if eqb (r .n) 28 then blocked.Refused (Much line)
+    else if eqb (r .n) 29 then blocked.Short (record { 0 = r .a })
+    else blocked.Refused Long
 
 blocked-back : (b : Blocked) → blockedCase (blockedOf b) ≡ b
 unfolding blockedCase
 blocked-back (Block size) = refl
 blocked-back (blocked.Short size) = refl
-blocked-back (blocked.Refused f) = by f ∙ ap blocked.Refused (flaw-back f)
-  where
-    by : (g : Flaw) → blockedCase (flawOf g) ≡ blocked.Refused (flawCase (flawOf g))
-    by (Byte line column) = refl
-    by NoRecord = refl
-    by (Field line column) = refl
-    by (columns.Kind line) = refl
-    by (Count line) = refl
-    by (Ends line) = refl
-    by (NotBlank line column) = refl
-    by (Range line column) = refl
-    by (Much line) = refl
-    by Long = refl
+blocked-back (blocked.Refused (Byte line column)) = refl
+blocked-back (blocked.Refused NoRecord) = refl
+blocked-back (blocked.Refused (Field line column)) = refl
+blocked-back (blocked.Refused (columns.Kind line)) = refl
+blocked-back (blocked.Refused (Count line)) = refl
+blocked-back (blocked.Refused (Ends line)) = refl
+blocked-back (blocked.Refused (NotBlank line column)) = refl
+blocked-back (blocked.Refused (Range line column)) = refl
+blocked-back (blocked.Refused (Much line)) = refl
+blocked-back (blocked.Refused Long) = refl
+
+-- the refusal in it
+flawIn : Blocked → Flaw
+flawIn (Block size) = Long
+flawIn (blocked.Refused f) = f
+flawIn (blocked.Short size) = Long
+
+contentCase : Verdict Kept → Content
+contentCase (passed k) = text.Records (record { 0 = k .so })
+contentCase (refused r) = Flawed (flawIn (blockedCase r))
+
+content-back : (b : List ℕ) (r : Content) → contentCase (contentOf b r) ≡ r
+unfolding contentCase flawIn
+content-back b (text.Records n) = refl
+content-back b (Flawed f) = ap (λ x. Flawed (flawIn x)) (blocked-back (blocked.Refused f))
+
+pub content-agrees : ContentAgrees
+content-agrees text r s p q = sym (content-back [] r) ∙ ap contentCase (same p q) ∙ content-back [] s
 
 pub block-agrees : BlockAgrees
 block-agrees text block r s b c p q = let e = same p q in (sym (blocked-back r) ∙ ap (λ w. blockedCase (w .answer)) e ∙ blocked-back s, ap (λ w. w .out) e)

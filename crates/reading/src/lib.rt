@@ -239,6 +239,7 @@ fn header_fields(num: Lines, line: &[u8], row: &mut [u16]) -> Checked
     }
 }
 
+// A Header, once those fields are read.
 fn header_line(num: Lines, so: Words, line: &[u8], row: &mut [u16], block: &mut [u8]) -> Step
     requires { ⌜ (length (now row) ≡ 20) × (so .0 < 2 ^ 22) ⌝ }
     ensures { λ r. ⌜ Stepped (so .0) (now (block .entry)) (headerLine (num .0) (so .0) (now (line .entry)) (take 12 (now (row .entry)))) (now (block .exit)) r ⌝ }
@@ -284,6 +285,7 @@ fn prologue_line(num: Lines, so: Words, line: &[u8], row: &mut [u16], block: &mu
     }
 }
 
+// A Data record: its counts, then the rest of its first line.
 fn data_line(num: Lines, so: Words, line: &[u8], row: &mut [u16], block: &mut [u8]) -> Step
     requires { ⌜ (length (now row) ≡ 20) × (so .0 < 2 ^ 22) ⌝ }
     ensures { λ r. ⌜ Stepped (so .0) (now (block .entry)) (dataLine (num .0) (so .0) (now (line .entry)) (take 12 (now (row .entry)))) (now (block .exit)) r ⌝ }
@@ -312,6 +314,7 @@ fn kind_line(num: Lines, so: Words, line: &[u8], row: &mut [u16], block: &mut [u
     Step::Refused(Flaw::Kind(num))
 }
 
+// A record's first line: fields 1 to 12, then what its kind asks for.
 fn first_line(num: Lines, so: Words, line: &[u8], row: &mut [u16], block: &mut [u8]) -> Step
     requires { ⌜ (length (now row) ≡ 20) × (so .0 < 2 ^ 22) ⌝ }
     ensures { λ r. ⌜ Stepped (so .0) (now (block .entry)) (firstLine (num .0) (so .0) (now (line .entry))) (now (block .exit)) r ⌝ }
@@ -356,6 +359,7 @@ fn card_line(p: Plan, num: Lines, so: Words, line: &[u8], block: &mut [u8]) -> S
     }
 }
 
+// What is to come after a card.
 fn one_card_less(p: Plan) -> Plan
     requires { ⌜ 0 < p .cards .0 ⌝ }
     ensures { λ r. ⌜ toCome p ≡ card ∷ toCome r ⌝ }
@@ -411,6 +415,7 @@ fn fields_line(
     }
 }
 
+// What is to come after a line of the present part.
 fn one_line_less(p: Plan, count: Words) -> Plan
     requires { ⌜ (p .cards .0 ≡ 0) × (0 < p .left .0) × (count .0 ≡ min (p .left .0) 20) ⌝ }
     ensures { λ r. ⌜ toCome p ≡ fields (count .0) ∷ toCome r ⌝ }
