@@ -19,7 +19,7 @@ use Rattle.field.specs.Writing.{fieldOf, FieldByte, blank, minus, figure}
 use Rattle.field.specs.Reading.{columns, readField}
 use Rattle.field.proofs.Written.{length-fieldOf, bytes-fieldOf, last-fieldOf}
 use Rattle.field.proofs.Back.{read-written}
-use Rattle.field.proofs.Choice.{both-ways}
+use Rattle.units.proofs.Choosing.{both-ways}
 use Rattle.lines.specs.Lines.{Line, fieldsOf, laid, cardLines}
 use Rattle.lines.specs.Text.{ended}
 use Rattle.lines.proofs.Turns.{length-fieldsOf, fieldsIn}

@@ -6,7 +6,8 @@ use Rattle.record.specs.Judging.{passing, wordWithin, wrongTotal, underLeast, f
 use Rattle.block.specs.Judging.{wrongSize, walk, judged}
 use Rattle.record.specs.Lines.{lineCount}
 use Rattle.block.specs.Records.{cut, recordsOf}
-use Rattle.field.specs.Writing.{decimal, fieldOf}
+use Rattle.field.specs.Writing.{fieldOf}
+use Rattle.units.specs.Decimal.{decimal}
 use Rattle.field.specs.Reading.{readField, columns}
 use Rattle.columns.specs.Columns.{number}
 use Rattle.report.specs.Text.{bytesFrom}

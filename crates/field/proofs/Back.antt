@@ -12,9 +12,10 @@ use Rattle.units.specs.Choice.{if_then_else_}
 use Rattle.field.specs.declared.Number.the-variants.{Word}
 use Rattle.field.specs.declared.Scan.{Scan}
 use Rattle.field.specs.declared.Scan.the-variants.{Blank, Sign, Digits}
-use Rattle.field.specs.Writing.{digit, decimal, magnitudeOf, signOf, blanks, fieldOf}
+use Rattle.field.specs.Writing.{magnitudeOf, signOf, blanks, fieldOf}
+use Rattle.units.specs.Decimal.{digit, decimal}
 use Rattle.field.specs.Reading.{digitOf, stepOf, finishOf, scanOf, readField}
-use Rattle.field.proofs.Digits.{last-one, last-more}
+use Rattle.units.proofs.Digits.{last-one, last-more}
 
 scan-append : (xs ys : List ℕ) (s : Scan) → scanOf s (xs ++ ys) ≡ scanOf (scanOf s xs) ys
 scan-append [] ys s = refl

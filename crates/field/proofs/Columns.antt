@@ -14,7 +14,7 @@ use Rattle.field.specs.declared.Number.the-variants.{Bad}
 use Rattle.field.specs.declared.Scan.{Scan}
 use Rattle.field.specs.declared.Scan.the-variants.{Blank, Sign, Digits, Spoiled}
 use Rattle.field.specs.Reading.{digitOf, stepOf, finishOf, scanOf, readField, columns, Short}
-use Rattle.field.proofs.Choice.{both-ways}
+use Rattle.units.proofs.Choosing.{both-ways}
 
 -- ---- a digit, by the number that it is above 48, wrapped
 

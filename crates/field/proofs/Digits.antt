@@ -4,26 +4,9 @@ use mathlib.Core.List.{[], _∷_, _++_, append-assoc}
 use Prim.Native.Nat.{ℕ, zero, suc, _+_, _-_, _*_, _/_, _%_, _≤_, _<_}
 use native.Mathlib.Nat.{add-mul-mod-self-right, mod-eq-of-lt}
 use native.Mathlib.Omega.{arith}
-use borrow.Author.Tests.{le-ltb, lt-ltb}
-use lib.Dec.{ltb}
-use lib.ListN.{length, length-append}
-use Rattle.field.specs.Writing.{digit, decimal}
+use Rattle.units.specs.Decimal.{digit, decimal}
 use Rattle.field.specs.Putting.{lastTwo, lastFour, fourBytes}
-use Rattle.field.proofs.Choice.{both-ways}
-
-pub last-one : (most n : ℕ) → n < 10 → decimal (suc most) n ≡ digit n ∷ []
-unfolding decimal
-last-one most n h = simp (lt-ltb n 10 h)
-
-pub last-more : (most n : ℕ) → 10 ≤ n → decimal (suc most) n ≡ decimal most (n / 10) ++ digit n ∷ []
-unfolding decimal
-last-more most n h = simp (le-ltb n 10 h)
-
-pub length-decimal : (most n : ℕ) → length (decimal most n) ≤ most
-unfolding decimal
-length-decimal zero n = omega arith
-length-decimal (suc most) n =
-    rw length-append (omega (arith, both-ways (λ l. length l ≤ most) (ltb n 10) [] (decimal most (n / 10)) (omega arith) (length-decimal most (n / 10))))
+use Rattle.units.proofs.Digits.{last-one, last-more}
 
 pub last-two : (most n : ℕ) → 10 ≤ n → n < 100 → decimal (suc (suc most)) n ≡ lastTwo n
 last-two most n h k = rw (last-more (suc most) n h, last-one most (n / 10) (omega arith))

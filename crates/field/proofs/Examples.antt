@@ -6,7 +6,8 @@ use Prim.Native.Char.{code}
 use Prim.Native.String.{String, charAt}
 use Rattle.field.specs.declared.Number.{Number}
 use Rattle.field.specs.declared.Number.the-variants.{Word, Bad}
-use Rattle.field.specs.Writing.{decimal, fieldOf}
+use Rattle.field.specs.Writing.{fieldOf}
+use Rattle.units.specs.Decimal.{decimal}
 use Rattle.field.specs.Reading.{readField}
 
 six : String → List ℕ

@@ -1,4 +1,3 @@
-pub mod Choice
 pub mod Stores
 pub mod Digits
 pub mod Putting

@@ -6,10 +6,12 @@ use native.Mathlib.Omega.{arith}
 use borrow.Author.Tests.{le-ltb, lt-ltb}
 use lib.ListN.{length, set, length-replicate, replicate-append-replicate}
 use lib.Seq.{sets}
-use Rattle.field.specs.Writing.{digit, decimal, magnitudeOf, signOf, blanks, rightmost, fieldOf}
+use Rattle.field.specs.Writing.{magnitudeOf, signOf, blanks, rightmost, fieldOf}
+use Rattle.units.specs.Decimal.{digit, decimal}
 use Rattle.field.specs.Putting.{lastTwo, lastFour, Put}
 use Rattle.field.proofs.Stores.{set-before, sets-over}
-use Rattle.field.proofs.Digits.{length-decimal, last-one, last-two, more-two, last-four, last-five}
+use Rattle.units.proofs.Digits.{length-decimal, last-one}
+use Rattle.field.proofs.Digits.{last-two, more-two, last-four, last-five}
 
 -- one digit before those that were put
 put-before : {before after text : List ℕ} {end : ℕ} (next first b : ℕ) → next ≡ first + 1 → Put before after text end next → Put before (set after first b) (b ∷ text) end first

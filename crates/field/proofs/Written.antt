@@ -9,9 +9,10 @@ use lib.Seq.{getD-at}
 use Rattle.units.specs.Choice.{if_then_else_}
 use Rattle.words.specs.Words.{All}
 use Rattle.words.proofs.Lists.{all-append}
-use Rattle.field.specs.Writing.{digit, decimal, magnitudeOf, signOf, blanks, fieldOf, FieldByte, blank, minus, figure}
-use Rattle.field.proofs.Choice.{both-ways}
-use Rattle.field.proofs.Digits.{length-decimal}
+use Rattle.field.specs.Writing.{magnitudeOf, signOf, blanks, fieldOf, FieldByte, blank, minus, figure}
+use Rattle.units.specs.Decimal.{digit, decimal}
+use Rattle.units.proofs.Choosing.{both-ways}
+use Rattle.units.proofs.Digits.{length-decimal}
 
 module _ (w : ℕ) where
   abbrev number : List ℕ

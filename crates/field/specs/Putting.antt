@@ -4,7 +4,7 @@ use mathlib.Core.List.{List, [], _∷_}
 use Prim.Native.Nat.{ℕ, _+_, _/_, _%_}
 use lib.ListN.{length}
 use lib.Seq.{sets}
-use Rattle.field.specs.Writing.{digit}
+use Rattle.units.specs.Decimal.{digit}
 
 -- the last two digits of a number, zeros too
 abbrev pub lastTwo : ℕ → List ℕ

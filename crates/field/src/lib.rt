@@ -4,7 +4,8 @@ ghost use mathlib.Core.Path.{_≡_};
 ghost use Prim.Native.Nat.{_+_, _<_, _≤_};
 ghost use lib.ListN.{length};
 ghost use lib.Seq.{sets};
-ghost use Rattle.field.specs.Writing.{decimal, magnitudeOf, blanks, fieldOf};
+ghost use Rattle.field.specs.Writing.{magnitudeOf, blanks, fieldOf};
+ghost use Rattle.units.specs.Decimal.{decimal};
 ghost use Rattle.field.specs.Putting.{lastTwo, lastFour, fourBytes, Put};
 ghost use Rattle.field.specs.Reading.{digitOf, stepOf, valueOf, finishOf, readField, columns, Short};
 

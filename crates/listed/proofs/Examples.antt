@@ -10,7 +10,8 @@ use Rattle.block.specs.Records.{cut, recordsOf}
 use Rattle.prefix.specs.LookUp.{beside}
 use Rattle.prefix.specs.Table.{table}
 use Rattle.report.specs.Text.{bytesFrom, text, behind, lineOf}
-use Rattle.report.specs.Decimal.{digits, decimalOf}
+use Rattle.report.specs.Decimal.{decimalOf}
+use Rattle.units.specs.Decimal.{decimal}
 use Rattle.report.specs.Refusal.{refusalLine}
 use Rattle.listed.specs.Listing.{signedOf, rowOf, rowsOf, listingOf}
 
@@ -21,9 +22,9 @@ blockK nrow checksum =
     ∷ 540 ∷ 285 ∷ 110 ∷ 550 ∷ 250 ∷ 900 ∷ 300 ∷ 32769 ∷ checksum ∷ []
 
 listed-K : listingOf (bytesOf (blockK 2 33020)) ≡ text "1 2 1002 24 6 30 MLH" ++ (10 ∷ [])
-unfolding blockK wordsOf bytesOf xorAll underLeast judgeCounts judgeData judgeRecord wrongSize walk judged cut recordsOf lineCount beside table bytesFrom behind lineOf digits decimalOf signedOf rowOf rowsOf listingOf
+unfolding blockK wordsOf bytesOf xorAll underLeast judgeCounts judgeData judgeRecord wrongSize walk judged cut recordsOf lineCount beside table bytesFrom behind lineOf decimal decimalOf signedOf rowOf rowsOf listingOf
 listed-K = refl
 
 refused-K : listingOf (bytesOf (blockK 1 33023)) ≡ text "refused 9 1 1 0" ++ (10 ∷ [])
-unfolding blockK wordsOf bytesOf xorAll underLeast judgeCounts judgeData judgeRecord wrongSize walk judged bytesFrom behind lineOf digits decimalOf refusalLine listingOf
+unfolding blockK wordsOf bytesOf xorAll underLeast judgeCounts judgeData judgeRecord wrongSize walk judged bytesFrom behind lineOf decimal decimalOf refusalLine listingOf
 refused-K = refl

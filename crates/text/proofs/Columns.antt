@@ -19,7 +19,8 @@ use Rattle.field.specs.declared.Scan.the-variants.{Blank, Sign, Digits, Spoiled
 use Rattle.field.specs.Reading.{finishOf, scanOf, readField, columns}
 use Rattle.lines.specs.Lines.{Line}
 use Rattle.columns.specs.Columns.{badColumn, inkFrom, inkAfter, blankAfter, columnOf, wordIn, number, numbers, blankField, zeroField, zeros}
-use Rattle.text.proofs.Told.{told, Known, by-test, then-known, Any}
+use Rattle.text.proofs.Told.{told, Known, then-known, Any}
+use Rattle.units.proofs.Choosing.{by-test}
 
 -- ---- row 20
 

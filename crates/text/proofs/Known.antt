@@ -19,7 +19,8 @@ use Rattle.lines.specs.Lines.{Line}
 use Rattle.cutting.specs.Cutting.{onto, linesIn}
 use Rattle.reading.specs.Reading.{Shape, Read, lineStep, atEnd, readLines}
 use Rattle.text.specs.Block.{readText, toBlock}
-use Rattle.text.proofs.Told.{told, Known, by-test, then-known}
+use Rattle.text.proofs.Told.{told, Known, then-known}
+use Rattle.units.proofs.Choosing.{by-test}
 use Rattle.text.proofs.Opened.{wordsToCome, skipped, opens, Given, line-known}
 
 -- ---- the lines of a text

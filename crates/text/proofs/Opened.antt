@@ -25,7 +25,8 @@ use Rattle.lines.proofs.Sizes.{fieldsIn-plan}
 use Rattle.columns.specs.Columns.{badColumn, inkFrom, blankAfter, columnOf, numbers, zeros}
 use Rattle.reading.specs.Reading.{Shape, card, fields, Read, gives, cardsLine, countsIn, planLine, headerFields, countFields, prologueFields, catalogueLine, headerLine, dataLine, kindLine, firstLine, rowFields, inState, lineStep}
 use Rattle.columns.proofs.Scan.{length-columns}
-use Rattle.text.proofs.Told.{Told, told, Known, by-test, then-known, known-as, Any}
+use Rattle.text.proofs.Told.{Told, told, Known, then-known, known-as, Any}
+use Rattle.units.proofs.Choosing.{by-test}
 use Rattle.text.proofs.Columns.{bad-most, Clean, clean, columns-printed, card-words, WordsRead, numbers-known, zeros-known, blank-known}
 
 -- ---- the lines to come

@@ -24,11 +24,6 @@ abbrev pub Known : {A : Type 0} → (A → Type 0) → Verdict A → Type 0
 Known P (passed x) = P x
 Known P (refused r) = Told r
 
--- each way of a choice is known where its test says so
-pub by-test : {A : Type 0} (P : A → Type 0) (t : Bool) (x y : A) → (t ≡ true → P x) → (t ≡ false → P y) → P (if t then x else y)
-by-test P true x y h k = h refl
-by-test P false x y h k = k refl
-
 -- a judgement, and then another
 pub then-known : {A B : Type 0} (P : A → Type 0) (Q : B → Type 0) (v : Verdict A) (f : A → Verdict B) → Known P v → ((x : A) → P x → Known Q (f x)) → Known Q (onward v f)
 then-known P Q (passed x) f h on = on x h

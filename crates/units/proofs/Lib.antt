@@ -1,2 +1,4 @@
 pub mod Packing
 pub mod Verdicts
+pub mod Choosing
+pub mod Digits

@@ -1,3 +1,4 @@
 pub mod Choice
 pub mod Units
 pub mod Answers
+pub mod Decimal

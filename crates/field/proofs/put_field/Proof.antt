@@ -2,7 +2,7 @@ use native.Mathlib.Omega.{arith}
 use lib.ListN.{length-set}
 use denote.Ref.{now}
 use borrow.Author.Needs.{needs}
-use Rattle.field.proofs.Digits.{length-decimal}
+use Rattle.units.proofs.Digits.{length-decimal}
 use Rattle.field.proofs.Putting.{plain, with-minus}
 use Rattle.field.proofs.put_field.Statement.{statement}
 use Rattle.field.proofs.put_field.Tie as tie

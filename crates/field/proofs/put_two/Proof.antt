@@ -5,7 +5,7 @@ use native.Mathlib.Omega.{arith}
 use lib.ListN.{length-set}
 use denote.Ref.{now}
 use borrow.Author.Needs.{needs}
-use Rattle.field.specs.Writing.{digit}
+use Rattle.units.specs.Decimal.{digit}
 use Rattle.field.proofs.Digits.{tens-of-last}
 use Rattle.field.proofs.Stores.{set-before}
 use Rattle.field.proofs.put_two.Statement.{statement}
