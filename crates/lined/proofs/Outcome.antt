@@ -1,18 +1,18 @@
 -- What is printed, by what the judge says, and that it fits.
-use mathlib.Core.Path.{_≡_, refl}
+use mathlib.Core.Path.{_≡_}
 use mathlib.Core.List.{List}
 use Prim.Native.Nat.{ℕ, _≤_}
 use native.Mathlib.Omega.{arith}
 use lib.ListN.{length}
 use Rattle.units.specs.declared.Answer.{Answer}
-use Rattle.units.specs.Answers.{Verdict, passed, refused}
+use Rattle.units.specs.Answers.{passed, refused}
 use Rattle.words.specs.Words.{Below}
 use Rattle.block.specs.Judging.{judged}
 use Rattle.block.specs.Records.{recordsOf}
 use Rattle.lines.specs.Text.{textOf}
 use Rattle.lines.proofs.Sizes.{text-bound}
 use Rattle.report.specs.Refusal.{refusalLine}
-use Rattle.report.proofs.Lines.{refusal-most}
+use Rattle.report.proofs.Lines.{printed-most}
 use Rattle.lined.specs.Printed.{printedOf}
 
 pub when-accepted : (b : List ℕ) (k : ℕ) → judged b ≡ passed k → printedOf b ≡ textOf (recordsOf b)
@@ -24,8 +24,5 @@ unfolding printedOf
 when-refused b r e = rw e
 
 pub printed-bound : (b : List ℕ) → Below 256 b → length (printedOf b) ≤ 55971
-printed-bound b h = by (judged b) refl
-  where
-    by : (v : Verdict ℕ) → judged b ≡ v → length (printedOf b) ≤ 55971
-    by (passed k) e = rw (when-accepted b k e) (text-bound b h (record { count = k; is = e }))
-    by (refused r) e = rw (when-refused b r e) (omega (arith, refusal-most r))
+unfolding printedOf
+printed-bound b h = printed-most (λ _. textOf (recordsOf b)) 55971 (omega arith) (judged b) (λ k e. text-bound b h (record { count = k; is = e }))

@@ -15,9 +15,9 @@ use Rattle.prefix.specs.declared.Letters.{Letters}
 use Rattle.prefix.specs.Table.{prefixOf}
 use Rattle.report.specs.Text.{behind, lineOf}
 use Rattle.report.specs.Decimal.{decimalOf, spaced}
-use Rattle.report.specs.Refusal.{refusalLine}
+use Rattle.report.specs.Refusal.{refusalLine, printed}
 use Rattle.report.proofs.Lines.{behind-numbers}
-use Rattle.listed.specs.Listing.{signedOf, lettersOf, rowOf, rowsOf, shown, listingOf}
+use Rattle.listed.specs.Listing.{signedOf, lettersOf, rowOf, rowsOf, listingOf}
 
 pub signed-plain : (w : ℕ) → w < 32768 → signedOf w ≡ decimalOf w
 unfolding signedOf
@@ -58,8 +58,8 @@ rows-turn {ws} {at} {place} {size} {rs} number t {r} e =
 module _ (b : List ℕ) where
   pub when-accepted : (k : ℕ) → judged b ≡ passed k → listingOf b ≡ rowsOf 1 1 (recordsOf b)
   unfolding listingOf
-  when-accepted k e = ap (shown (recordsOf b)) e
+  when-accepted k e = ap (printed (λ _. rowsOf 1 1 (recordsOf b))) e
 
   pub when-refused : (r : Answer) → judged b ≡ refused r → listingOf b ≡ refusalLine r
   unfolding listingOf
-  when-refused r e = ap (shown (recordsOf b)) e
+  when-refused r e = ap (printed (λ _. rowsOf 1 1 (recordsOf b))) e

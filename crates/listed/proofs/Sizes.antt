@@ -9,7 +9,7 @@ use lib.Dec.{ltb, eqb}
 use lib.ListN.{length, length-append}
 use Rattle.units.specs.Choice.{if_then_else_}
 use Rattle.units.specs.Units.{linesOfFields}
-use Rattle.units.specs.Answers.{Verdict, passed, refused}
+use Rattle.units.specs.Answers.{passed}
 use Rattle.words.specs.Words.{word, joined, All, Below}
 use Rattle.record.specs.Lines.{lineCount}
 use Rattle.record.specs.Rules.{DataOk, KindOk, catalogue, header, dataRecord, RecordOk}
@@ -19,8 +19,8 @@ use Rattle.block.proofs.Exact.{ok-long, only-good}
 use Rattle.prefix.specs.Table.{prefixOf}
 use Rattle.report.specs.Decimal.{decimalOf, spaced}
 use Rattle.report.proofs.Digits.{most-digits, few-digits}
-use Rattle.report.proofs.Lines.{spaced-most, refusal-most}
-use Rattle.listed.specs.Listing.{signedOf, rowOf, rowsOf, shown, listingOf}
+use Rattle.report.proofs.Lines.{spaced-most, printed-most}
+use Rattle.listed.specs.Listing.{signedOf, rowOf, rowsOf, listingOf}
 use Rattle.listed.proofs.Rows.{ending, closing, ending-pieces, middle, row-pieces}
 
 -- a line has a word or more
@@ -92,8 +92,4 @@ rows-bound b k h e =
 -- a listing is never longer than 32,768 bytes
 pub listing-bound : (b : List ℕ) → Below 256 b → length (listingOf b) ≤ 32768
 unfolding listingOf
-listing-bound b h = by (judged b) refl
-  where
-    by : (v : Verdict ℕ) → judged b ≡ v → length (shown (recordsOf b) v) ≤ 32768
-    by (passed k) e = rows-bound b k h e
-    by (refused r) e = omega (arith, refusal-most r)
+listing-bound b h = printed-most (λ _. rowsOf 1 1 (recordsOf b)) 32768 (omega arith) (judged b) (λ k e. rows-bound b k h e)

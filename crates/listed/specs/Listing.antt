@@ -4,7 +4,6 @@ use mathlib.Core.List.{List, [], _∷_, _++_}
 use lib.Dec.{ltb}
 use lib.ListN.{length}
 use Rattle.units.specs.Choice.{if_then_else_}
-use Rattle.units.specs.Answers.{Verdict, passed, refused}
 use Rattle.words.specs.Words.{word}
 use Rattle.record.specs.Lines.{lineCount}
 use Rattle.block.specs.Judging.{judged}
@@ -13,7 +12,7 @@ use Rattle.prefix.specs.declared.Letters.{Letters}
 use Rattle.prefix.specs.Table.{prefixOf}
 use Rattle.report.specs.Text.{lineOf}
 use Rattle.report.specs.Decimal.{decimalOf}
-use Rattle.report.specs.Refusal.{refusalLine}
+use Rattle.report.specs.Refusal.{printed}
 
 -- "Words are 16 bits, ... two's complement": the number that a word stands for
 unfoldable pub signedOf : ℕ → List ℕ
@@ -41,11 +40,6 @@ unfoldable pub rowsOf : ℕ → ℕ → List (List ℕ) → List ℕ
 rowsOf number before [] = []
 rowsOf number before (r ∷ rs) = rowOf number before r ++ rowsOf (number + 1) (before + length r) rs
 
--- "For a refusal it prints only one line"; the first record is number 1, and the block's length word stands before it
-abbrev pub shown : List (List ℕ) → Verdict ℕ → List ℕ
-shown rs (passed k) = rowsOf 1 1 rs
-shown rs (refused r) = refusalLine r
-
--- "The listing program reads one block", and prints this
+-- "The listing program reads one block": the first record is number 1, and the block's length word stands before it
 unfoldable pub listingOf : List ℕ → List ℕ
-listingOf block = shown (recordsOf block) (judged block)
+listingOf block = printed (λ _. rowsOf 1 1 (recordsOf block)) (judged block)

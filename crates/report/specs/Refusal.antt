@@ -2,9 +2,15 @@
 use Prim.Native.Nat.{ℕ}
 use mathlib.Core.List.{List, [], _∷_}
 use Rattle.units.specs.declared.Answer.{Answer}
+use Rattle.units.specs.Answers.{Verdict, passed, refused}
 use Rattle.report.specs.Text.{text, lineOf}
 use Rattle.report.specs.Decimal.{decimalOf}
 
 -- "For a refusal it prints only one line, "refused" and the four numbers, spaced and ended in the same way"
 unfoldable pub refusalLine : Answer → List ℕ
 refusalLine r = lineOf (text "refused" ∷ decimalOf (r .n) ∷ decimalOf (r .a) ∷ decimalOf (r .b) ∷ decimalOf (r .c) ∷ [])
+
+-- "For a refusal it prints only one line": what a program makes of what passed, or that line
+abbrev pub printed : {A : Type 0} → (A → List ℕ) → Verdict A → List ℕ
+printed f (passed x) = f x
+printed f (refused r) = refusalLine r
