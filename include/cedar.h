@@ -47,7 +47,7 @@
  *   A line has at most 120 bytes, each from 32 to 126. It ends with LF, CR LF, or, after a byte, the end of the text.
  *   A CR elsewhere is a bad byte.
  *   Lines are numbered from 1 through the whole text, and columns from 1. Columns that a line lacks are blank.
- *   A field may have a plus or leading zeros: it is blanks, at most one sign, and digits to its last column.
+ *   A field may have a plus or leading zeros: it is blanks, at most one sign, and digits to its last column; -0 is 0.
  *   Catalogue: fields 13 to 20 are 0 or blank. Header: fields 16 to 20 are 0 or blank.
  *   Columns after a line's last field, or after a card's column 80, are blank.
  *   A blank line has no byte or only blanks. It may stand before, between and after records; in a record it is a card,
@@ -128,16 +128,19 @@ enum { CEDAR_READ_MOST = 65536, CEDAR_BLOCK_MOST = 16000 };
  *   22  a field is no number from -32,768 to 32,767        line            its first column
  *   23  the kind is unknown                                line            7
  *   24  Catalogue, Header: field 1 is not 1 to 199         line            1
- *       Data: field 1 is not the lines of its counts       line            1
+ *       Data: field 1 is not the lines its counts need     line            1
  *   25  the text ends inside a record                      last line + 1   1
  *   26  a column that must be blank is not                 line            that column
  *       a field that must be 0 or blank is another number  line            its first column
  *   27  Data: a count is under its least value             line            its first column
- *   28  the records up to this one have over 7,998 words   line            1
+ *   28  the records up to this one have over 7,998 words,  line            1
+ *       as field 1 or the counts say, even if its lines
+ *       are not there
  *   29  block_length is less than the block needs          bytes needed
  *   30  text_length is over 65,536
  *
  * Tried in this order: 30, then line by line, and at the end 21, then 29; the first that holds is the answer.
+ * So a call with block_length 0 asks how many bytes an accepted text needs.
  * Blank lines outside of records: 20.
  * A record's first line: 20, fields 1 to 12 by 22, 23, then by kind
  *   Catalogue: fields 13 to 20, each by 22 and 26; then 24, 28.
@@ -145,7 +148,6 @@ enum { CEDAR_READ_MOST = 65536, CEDAR_BLOCK_MOST = 16000 };
  *   Data: fields 13 to 16 by 22; 27; fields 17 on, as far as LPROL goes, by 22; columns after them by 26; then 28, 24.
  * Its later lines: 25, 20, fields by 22, columns after them or after a card by 26.
  * Where several places of a line are wrong in the same way, b is the first of them.
- * So a call with block_length 0 asks how many bytes an accepted text needs.
  * Bytes of the block past those written stay as they are.
  */
 uint64_t cedar_to_block(const uint8_t *text, size_t text_length, uint8_t *block, size_t block_length);

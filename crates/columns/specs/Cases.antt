@@ -1,6 +1,4 @@
 -- The paper's numbers for each way in which a text is refused.
-use mathlib.Core.List.{List}
-use Prim.Native.Nat.{ℕ}
 use Rattle.units.specs.declared.Answer.{Answer}
 use Rattle.units.specs.Answers.{answer, Verdict, passed, refused}
 use Rattle.columns.specs.declared.Flaw.{Flaw}

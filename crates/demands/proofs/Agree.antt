@@ -1,6 +1,5 @@
 -- The promises agree.
 use mathlib.Core.Path.{_≡_, refl, sym, ap, _∙_}
-use mathlib.Core.List.{List, []}
 use Prim.Native.Nat.{ℕ}
 use lib.Dec.{eqb}
 use Rattle.units.specs.Choice.{if_then_else_}
@@ -28,8 +27,7 @@ use Rattle.text.specs.declared.Content.the-variants as text
 use Rattle.text.specs.declared.Blocked.{Blocked}
 use Rattle.text.specs.declared.Blocked.the-variants.{Block}
 use Rattle.text.specs.declared.Blocked.the-variants as blocked
-use Rattle.text.specs.Content.{Kept, contentOf}
-use Rattle.text.specs.Cases.{blockedOf}
+use Rattle.text.specs.Cases.{contentOf, blockedOf}
 use Rattle.demands.specs.Agree.{JudgeAgrees, CedarJudgeAgrees, StepAgrees, FindAgrees, PrefixAgrees, CedarPrefixAgrees, LinesAgree, CedarLinesAgree, ContentAgrees, BlockAgrees, CedarBlockAgrees}
 
 -- the case that a refusal's numbers tell
@@ -151,17 +149,17 @@ flawIn (Block size) = Long
 flawIn (blocked.Refused f) = f
 flawIn (blocked.Short size) = Long
 
-contentCase : Verdict Kept → Content
-contentCase (passed k) = text.Records (record { 0 = k .so })
+contentCase : Verdict ℕ → Content
+contentCase (passed n) = text.Records (record { 0 = n })
 contentCase (refused r) = Flawed (flawIn (blockedCase r))
 
-content-back : (b : List ℕ) (r : Content) → contentCase (contentOf b r) ≡ r
+content-back : (r : Content) → contentCase (contentOf r) ≡ r
 unfolding contentCase flawIn
-content-back b (text.Records n) = refl
-content-back b (Flawed f) = ap (λ x. Flawed (flawIn x)) (blocked-back (blocked.Refused f))
+content-back (text.Records n) = refl
+content-back (Flawed f) = ap (λ x. Flawed (flawIn x)) (blocked-back (blocked.Refused f))
 
 pub content-agrees : ContentAgrees
-content-agrees text r s p q = sym (content-back [] r) ∙ ap contentCase (same p q) ∙ content-back [] s
+content-agrees text r s p q = sym (content-back r) ∙ ap contentCase (same p q) ∙ content-back s
 
 pub block-agrees : BlockAgrees
 block-agrees text block r s b c p q = let e = same p q in (sym (blocked-back r) ∙ ap (λ w. blockedCase (w .answer)) e ∙ blocked-back s, ap (λ w. w .out) e)

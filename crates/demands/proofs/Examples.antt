@@ -16,16 +16,19 @@ use Rattle.words.specs.Outcomes.{written}
 use Rattle.lines.specs.Text.{ended, textOf, toLines}
 use Rattle.prefix.specs.LookUp.{beside}
 use Rattle.prefix.specs.Table.{table}
-use Rattle.demands.specs.Examples.{blockRows, blockK, blockLeast, BlockRows, fieldRows, FieldRows, prefixRows, PrefixRows}
+use Rattle.demands.specs.Examples.{blockRows, blockK, blockLeast, BlockRows, fieldRows, FieldRows, prefixRows, PrefixRows, PaperRows}
 
-pub block-rows : BlockRows
+block-rows : BlockRows
 unfolding blockRows blockK blockLeast judged wrongSize walk judgeRecord judgeCards judgeData judgeCounts wrongTotal underLeast firstNotZero firstNotCard passing wordWithin wordsOf bytesOf xorAll ones onesIn recordsOf cut toLines written textOf ended linesOf laid plan part times fieldsOf fieldOf decimal lineCount
 block-rows = refl
 
-pub field-rows : FieldRows
+field-rows : FieldRows
 unfolding fieldRows number readField columns bytesFrom
 field-rows = refl
 
-pub prefix-rows : PrefixRows
+prefix-rows : PrefixRows
 unfolding prefixRows table beside
 prefix-rows = refl
+
+pub paper-rows : PaperRows
+paper-rows = (block-rows, field-rows, prefix-rows)

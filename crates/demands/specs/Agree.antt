@@ -1,6 +1,6 @@
 -- Any two outcomes that a promise allows are the same: one statement for each public call.
 use mathlib.Core.Path.{_≡_}
-use mathlib.Core.List.{List, []}
+use mathlib.Core.List.{List}
 use Prim.Native.Nat.{ℕ}
 use Rattle.units.specs.Answers.{packedOf}
 use Rattle.block.specs.declared.Judged.{Judged}
@@ -15,9 +15,8 @@ use Rattle.lines.specs.Cases.{linedOf}
 use Rattle.lines.specs.Text.{toLines}
 use Rattle.text.specs.declared.Content.{Content}
 use Rattle.text.specs.declared.Blocked.{Blocked}
-use Rattle.text.specs.Content.{kept, contentOf}
-use Rattle.text.specs.Cases.{blockedOf}
-use Rattle.text.specs.Block.{readText, toBlock}
+use Rattle.text.specs.Cases.{contentOf, blockedOf}
+use Rattle.text.specs.Block.{wordsIn, toBlock}
 use Rattle.cedar.specs.Calls.{judgeAnswer, prefixAnswer, returned, converted}
 use Rattle.prefix.specs.declared.Letters.{Letters}
 use Rattle.prefix.specs.Table.{prefixOf}
@@ -59,7 +58,7 @@ CedarLinesAgree =
 
 -- `text::judge`
 abbrev pub ContentAgrees : Type 0
-ContentAgrees = (text : List ℕ) (r s : Content) → contentOf [] r ≡ kept 0 [] (readText text) → contentOf [] s ≡ kept 0 [] (readText text) → r ≡ s
+ContentAgrees = (text : List ℕ) (r s : Content) → contentOf r ≡ wordsIn text → contentOf s ≡ wordsIn text → r ≡ s
 
 -- `text::to_block`: the answer's case and every byte of the block
 abbrev pub BlockAgrees : Type 0

@@ -26,7 +26,7 @@ PrefixAnswers = (instrument : ℕ) → (prefixAnswer instrument .n ≡ 0) × Kep
 abbrev pub LinesAnswers : Type 0
 LinesAnswers =
     (block text : List ℕ) → Below 256 block →
-    (toLines block text .answer .n ≤ 29) × Kept (toLines block text .answer)
+    ((toLines block text .answer .n ≤ 9) ⊎ (toLines block text .answer .n ≡ 29)) × Kept (toLines block text .answer)
     × ((toLines block text .answer .n ≡ 0 → ⊥) → toLines block text .out ≡ text)
 
 -- "Order for text: 30, then line by line. ... At the end 21, then 29": rows 20 to 30; "Every refusal leaves every buffer untouched"

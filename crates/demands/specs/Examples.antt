@@ -1,4 +1,4 @@
--- Document 01, "Examples": the rows marked P that speak of blocks and their lines, fields, and prefixes, each sort as one table.
+-- Document 01, "Examples": the rows marked P as one table of three sorts: blocks and their lines, number fields, prefixes.
 use Prim.Native.Nat.{ℕ}
 use Prim.Native.String.{String}
 use mathlib.Core.Path.{_≡_}
@@ -85,3 +85,7 @@ prefixRows = (30, "MLH") ∷ (5140, "AQF") ∷ (7240, "---") ∷ (0, "---") ∷ 
 -- the rows are what the table answers
 abbrev pub PrefixRows : Type 0
 PrefixRows = map (λ e. prefixOf (e .0)) prefixRows ≡ map (λ e. letters (e .1)) prefixRows
+
+-- "The P rows are proved as a single table"
+abbrev pub PaperRows : Type 0
+PaperRows = BlockRows × FieldRows × PrefixRows

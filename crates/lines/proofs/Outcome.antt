@@ -25,13 +25,13 @@ unfolding toLines
 when-accepted b out k e = rw e
 
 -- the answer's numbers: those of the block, or 29 or 0 with at most 55,971 bytes
-pub outcome-told : (b out : List ℕ) → Below 256 b → (toLines b out .answer .n ≤ 29) × Packs (toLines b out .answer)
+pub outcome-told : (b out : List ℕ) → Below 256 b → ((toLines b out .answer .n ≤ 9) ⊎ (toLines b out .answer .n ≡ 29)) × Packs (toLines b out .answer)
 outcome-told b out h = by (judged b) refl (judged-known b h)
   where
-    size : (r : Answer) (k : ℕ) → (r ≡ answer 0 k 0 0) ⊎ (r ≡ answer 29 k 0 0) → k ≤ 55971 → (r .n ≤ 29) × Packs r
-    size r k (inl e) m = rw e (omega arith, record { n-fits = omega arith; a-fits = omega arith; b-fits = omega arith; c-fits = omega arith })
-    size r k (inr e) m = rw e (omega arith, record { n-fits = omega arith; a-fits = omega arith; b-fits = omega arith; c-fits = omega arith })
+    size : (r : Answer) (k : ℕ) → (r ≡ answer 0 k 0 0) ⊎ (r ≡ answer 29 k 0 0) → k ≤ 55971 → ((r .n ≤ 9) ⊎ (r .n ≡ 29)) × Packs r
+    size r k (inl e) m = rw e (inl (omega arith), record { n-fits = omega arith; a-fits = omega arith; b-fits = omega arith; c-fits = omega arith })
+    size r k (inr e) m = rw e (inr refl, record { n-fits = omega arith; a-fits = omega arith; b-fits = omega arith; c-fits = omega arith })
 
-    by : (v : Verdict ℕ) → judged b ≡ v → Known v → (toLines b out .answer .n ≤ 29) × Packs (toLines b out .answer)
-    by (refused r) e t = rw (when-refused b out r e) (omega (arith, t .listed), t .packs)
+    by : (v : Verdict ℕ) → judged b ≡ v → Known v → ((toLines b out .answer .n ≤ 9) ⊎ (toLines b out .answer .n ≡ 29)) × Packs (toLines b out .answer)
+    by (refused r) e t = rw (when-refused b out r e) (inl (t .listed), t .packs)
     by (passed k) e t = rw (when-accepted b out k e) (size _ (length (textOf (recordsOf b))) (written-answer out (textOf (recordsOf b))) (text-bound b h (record { count = k; is = e })))

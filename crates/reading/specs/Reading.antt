@@ -5,6 +5,7 @@ use mathlib.Core.Bool.{not, _||_}
 use lib.Dec.{ltb, eqb}
 use lib.ListN.{length, drop, replicate}
 use Rattle.units.specs.Choice.{if_then_else_}
+use Rattle.units.specs.Units.{wordsOfCards}
 use Rattle.units.specs.Answers.{answer, Verdict, passed, refused, onward}
 use Rattle.words.specs.Words.{word, wordsOf}
 use Rattle.record.specs.Judging.{underLeast, wordsNeeded}
@@ -23,15 +24,16 @@ pub record Read : Type 0 where
   pub words : List ℕ
   pub rest : List Shape
 
+-- a line that is accepted
 abbrev pub gives : List ℕ → List Shape → Verdict Read
 gives ws rest = passed (record { words = ws; rest = rest })
 
--- "Catalogue and Header give 24, then 28"; `so` record words stand before, and `head` has the fields that may be free
+-- "Catalogue and Header give 24, then 28": `so` record words stand before, `head` has the fields before those that must be zero, and `kind` is the binary kind
 unfoldable pub cardsLine : ℕ → ℕ → ℕ → List ℕ → Verdict Read
 cardsLine num so kind head =
     if ltb (word head 1) 1 || ltb 199 (word head 1) then refused (answer 24 num 1 0)
-    else if ltb 7998 (so + 40 * word head 1) then refused (answer 28 num 1 0)
-    else gives (40 * word head 1 ∷ (kind ∷ drop 2 head) ++ replicate (40 - length head) 0) (replicate (word head 1 - 1) card)
+    else if ltb 7998 (so + wordsOfCards (word head 1)) then refused (answer 28 num 1 0)
+    else gives (wordsOfCards (word head 1) ∷ (kind ∷ drop 2 head) ++ replicate (40 - length head) 0) (replicate (word head 1 - 1) card)
 
 -- row 27: "Data counts out of range: line, first column of the first such field"
 unfoldable pub countsIn : ℕ → List ℕ → Verdict (List ℕ)
@@ -58,6 +60,7 @@ catalogueLine num so l head = onward (zeros num l 12 8) (λ _. cardsLine num so 
 unfoldable pub headerFields : ℕ → Line → List ℕ → Verdict (List ℕ)
 headerFields num l head = onward (numbers num l 12 3) (λ more. onward (zeros num l 15 5) (λ _. passed (head ++ more)))
 
+-- a Header, by 22 or 26, then 24 and 28
 unfoldable pub headerLine : ℕ → ℕ → Line → List ℕ → Verdict Read
 headerLine num so l head = onward (headerFields num l head) (λ r. cardsLine num so 3002 r)
 
@@ -71,11 +74,12 @@ prologueFields num l r =
     let used = min (word r 13) 20 in
     onward (numbers num l 16 (used - 16)) (λ more. onward (blankAfter num l (6 * used)) (λ _. passed (r ++ more)))
 
+-- "Data: 27, fields 17 on, then blank columns by 26. Data gives 28, then 24"
 unfoldable pub dataLine : ℕ → ℕ → Line → List ℕ → Verdict Read
 dataLine num so l head =
     onward (countFields num l head) (λ r. onward (prologueFields num l r) (λ first. planLine num so first))
 
--- 23: a kind of the lines
+-- row 23: the value of field 2 is none of 2101, 3101, 1101
 unfoldable pub kindLine : ℕ → ℕ → Line → List ℕ → Verdict Read
 kindLine num so l head =
     if eqb (word head 2) 2101 then catalogueLine num so l head
@@ -83,15 +87,15 @@ kindLine num so l head =
     else if eqb (word head 2) 1101 then dataLine num so l head
     else refused (answer 23 num 7 0)
 
--- "A record's first line: 20; fields 1 to 12; 23; the further fields its kind always has"
+-- after 20, which `lineStep` tests: "fields 1 to 12; 23; the further fields its kind always has"
 unfoldable pub firstLine : ℕ → ℕ → Line → Verdict Read
 firstLine num so l = onward (numbers num l 0 12) (λ head. kindLine num so l head)
 
--- "Each later line: fields by 22, blank columns by 26"
+-- of a later line, after 25 and 20: "fields by 22, blank columns by 26"
 unfoldable pub rowFields : ℕ → Line → ℕ → Verdict (List ℕ)
 rowFields num l n = onward (numbers num l 0 n) (λ ws. onward (blankAfter num l (6 * n)) (λ _. passed ws))
 
--- a line by what is to come: "Each card is one line of 80 columns"; between records it may be blank
+-- "Each card is one line of 80 columns", and 81 to 120 are blank; "Within a record a blank line is a blank card, or a Data line with bad fields"; "Blank lines may stand before, between and after records"
 unfoldable pub inState : ℕ → ℕ → List Shape → Line → Verdict Read
 inState num so (card ∷ rest) l = onward (blankAfter num l 80) (λ _. gives (wordsOf (columns 80 l 0)) rest)
 inState num so (fields n ∷ rest) l = onward (rowFields num l n) (λ ws. gives ws rest)
@@ -103,7 +107,7 @@ lineStep num so rest l =
     if ltb 0 (badColumn 1 l) then refused (answer 20 num (badColumn 1 l) 0)
     else inState num so rest l
 
--- row 25: "text ends inside a record: last line + 1"; "At the end 21"
+-- row 25: "text ends inside a record: last line + 1"; "At the end 21": a record has 16 words or more, so where there are none there was no record
 unfoldable pub atEnd : ℕ → ℕ → List Shape → Verdict (List ℕ)
 atEnd num so (s ∷ rest) = refused (answer 25 num 1 0)
 atEnd num so [] = if eqb so 0 then refused (answer 21 0 0 0) else passed []

@@ -40,6 +40,7 @@ put so block ws = sets block (bytesOfWords (so + 1)) (bytesOf ws)
 abbrev pub after : ℕ → List ℕ → Verdict Read → Verdict Stand
 after so block v = onward v (λ s. passed (record { rest = s .rest; so = so + length (s .words); block = put so block (s .words) }))
 
+-- what a step says, with the block as it is then
 abbrev pub stepOf : List ℕ → Step → Verdict Stand
 stepOf block (Next p so) = passed (record { rest = toCome p; so = so .0; block = block })
 stepOf block (Refused f) = refused (flawOf f)

@@ -8,7 +8,7 @@ use Rattle.units.specs.Choice.{if_then_else_}
 use Rattle.units.specs.Answers.{answer, Verdict, passed, refused}
 use Rattle.words.specs.Words.{word, words}
 
--- how many words stand before the first that fails the test: all of them where none fails
+-- how many elements stand before the first that fails the test: all of them where none fails
 unfoldable pub passing : (ℕ → Bool) → List ℕ → ℕ
 passing p [] = 0
 passing p (w ∷ ws) = if p w then suc (passing p ws) else 0

@@ -14,6 +14,10 @@ use Rattle.reading.specs.Reading.{readLines}
 unfoldable pub readText : List ℕ → Verdict (List ℕ)
 readText t = if ltb 65536 (length t) then refused (answer 30 0 0 0) else readLines 1 0 [] (linesIn t)
 
+-- how many there are: judging alone
+unfoldable pub wordsIn : List ℕ → Verdict ℕ
+wordsIn t = onward (readText t) (λ ws. passed (length ws))
+
 -- "At the end 21, then 29": the record words of the text, length word and checksum around them, as bytes
 unfoldable pub toBlock : List ℕ → List ℕ → Written
 toBlock t out = written out (onward (readText t) (λ ws. passed (bytesOf (framed ws))))

@@ -1,9 +1,17 @@
 -- The paper's numbers for each case of what becomes of a text.
+use Prim.Native.Nat.{ℕ}
 use Rattle.units.specs.declared.Answer.{Answer}
-use Rattle.units.specs.Answers.{answer}
+use Rattle.units.specs.Answers.{answer, Verdict, passed, refused}
 use Rattle.columns.specs.Cases.{flawOf}
+use Rattle.text.specs.declared.Content.{Content}
+use Rattle.text.specs.declared.Content.the-variants.{Records, Flawed}
 use Rattle.text.specs.declared.Blocked.{Blocked}
 use Rattle.text.specs.declared.Blocked.the-variants.{Block, Refused, Short}
+
+-- the record words of a text, or its refusal
+abbrev pub contentOf : Content → Verdict ℕ
+contentOf (Records n) = passed (n .0)
+contentOf (Flawed f) = refused (flawOf f)
 
 -- the bytes written; the text's refusal; row 29 with the bytes needed
 abbrev pub blockedOf : Blocked → Answer

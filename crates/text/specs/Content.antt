@@ -1,4 +1,4 @@
--- What is found of a whole text.
+-- What is found of a whole text, on the way through its lines.
 use Prim.Native.Nat.{ℕ, _+_}
 use mathlib.Core.Path.{_≡_}
 use mathlib.Core.List.{List}
@@ -19,10 +19,11 @@ pub record Kept : Type 0 where
 abbrev pub kept : ℕ → List ℕ → Verdict (List ℕ) → Verdict Kept
 kept so block v = onward v (λ ws. passed (record { so = so + length ws; block = put so block ws }))
 
-abbrev pub contentOf : List ℕ → Content → Verdict Kept
-contentOf block (Records n) = passed (record { so = n .0; block = block })
-contentOf block (Flawed f) = refused (flawOf f)
+-- what is found, and the block as it is then
+abbrev pub keptOf : List ℕ → Content → Verdict Kept
+keptOf block (Records n) = passed (record { so = n .0; block = block })
+keptOf block (Flawed f) = refused (flawOf f)
 
 -- what is told at the end of the text, whatever block was written
 abbrev pub Ended : ℕ → ℕ → List Shape → Content → Type 0
-Ended num so rest r = (b : List ℕ) → contentOf b r ≡ kept so b (atEnd num so rest)
+Ended num so rest r = (b : List ℕ) → keptOf b r ≡ kept so b (atEnd num so rest)

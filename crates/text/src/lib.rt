@@ -15,9 +15,9 @@ ghost use Rattle.words.specs.Outcomes.{leaves};
 ghost use Rattle.cutting.specs.Cutting.{linesIn};
 ghost use Rattle.reading.specs.Reading.{readLines};
 ghost use Rattle.reading.specs.State.{toCome};
-ghost use Rattle.text.specs.Content.{kept, contentOf, Ended};
-ghost use Rattle.text.specs.Block.{readText, toBlock};
-ghost use Rattle.text.specs.Cases.{blockedOf};
+ghost use Rattle.text.specs.Content.{kept, keptOf, Ended};
+ghost use Rattle.text.specs.Block.{wordsIn, toBlock};
+ghost use Rattle.text.specs.Cases.{contentOf, blockedOf};
 
 // What is found of a text: so many record words, or why it is refused.
 pub enum Content {
@@ -25,7 +25,7 @@ pub enum Content {
     Flawed(Flaw),
 }
 
-// At the end of the text, whose lines are fewer than `num`.
+// At the end of the text; `num` is one more than its last line.
 fn at_end(plan: Plan, num: Lines, so: Words) -> Content
     ensures { λ r. ⌜ Ended (num .0) (so .0) (toCome plan) r ⌝ }
 {
@@ -45,7 +45,7 @@ fn at_end(plan: Plan, num: Lines, so: Words) -> Content
 // Reads the lines of a text, and puts their words into the block behind its length word, as far as it has room.
 fn read_lines(text: &[u8], block: &mut [u8]) -> Content
     requires { ⌜ length (now text) ≤ 65536 ⌝ }
-    ensures { λ r. ⌜ contentOf (now (block .exit)) r ≡ kept 0 (now (block .entry)) (readLines 1 0 [] (linesIn (now (text .entry)))) ⌝ }
+    ensures { λ r. ⌜ keptOf (now (block .exit)) r ≡ kept 0 (now (block .entry)) (readLines 1 0 [] (linesIn (now (text .entry)))) ⌝ }
 {
     let mut row = [0u16; 20];
     let mut plan = reading::cards_only(Lines(0));
@@ -79,7 +79,7 @@ pub enum Blocked {
 
 // Judges a text, and writes nothing.
 pub fn judge(text: &[u8]) -> Content
-    ensures { λ r. ⌜ contentOf [] r ≡ kept 0 [] (readText (now (text .entry))) ⌝ }
+    ensures { λ r. ⌜ contentOf r ≡ wordsIn (now (text .entry)) ⌝ }
 {
     if 65536 < text.len() {
         return Content::Flawed(Flaw::Long);
@@ -90,7 +90,7 @@ pub fn judge(text: &[u8]) -> Content
 
 // Writes the block of an accepted text that has so many record words, if the lent block has room for it.
 fn write_block(text: &[u8], records: Words, block: &mut [u8]) -> Blocked
-    requires { ⌜ contentOf [] (Content.Records records) ≡ kept 0 [] (readText (now text)) ⌝ }
+    requires { ⌜ contentOf (Content.Records records) ≡ wordsIn (now text) ⌝ }
     ensures { λ r. ⌜ leaves (blockedOf r) (now (block .exit)) ≡ toBlock (now (text .entry)) (now (block .entry)) ⌝ }
 {
     let all = records.0 + 2;

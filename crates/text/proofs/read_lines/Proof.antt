@@ -11,7 +11,7 @@ use Rattle.cutting.specs.Cutting.{linesIn}
 use Rattle.columns.specs.Cases.{flawOf}
 use Rattle.reading.specs.Reading.{readLines, lineStep, Shape}
 use Rattle.reading.specs.State.{toCome, stepOf, Near}
-use Rattle.text.specs.Content.{kept, contentOf}
+use Rattle.text.specs.Content.{kept}
 use Rattle.text.proofs.Loop.{Going, turn, end}
 use Rattle.text.proofs.read_lines.Statement.{statement}
 use Rattle.text.proofs.read_lines.Tie as tie

@@ -1,7 +1,7 @@
 use denote.Ref.{now}
 use mathlib.Core.Path.{_≡_, refl, sym, ap, _∙_}
 use mathlib.Core.List.{[]}
-use Rattle.text.specs.Content.{contentOf}
+use Rattle.text.specs.Cases.{contentOf}
 use Rattle.text.proofs.Outcome.{refused-is}
 use borrow.Author.Needs.{needs}
 use Rattle.text.proofs.to_block.Statement.{statement}
@@ -17,10 +17,10 @@ enum-known-n : tie.Need-enum-known-n
 enum-known-n c = search needs
 
 write-block-requires : tie.Need-write-block-requires
-write-block-requires c κs = ap (contentOf []) (sym (c .before .before .n .given .1)) ∙ c .before .before .before .before .judge .ensures
+write-block-requires c κs = ap contentOf (sym (c .before .before .n .given .1)) ∙ c .before .before .before .before .judge .ensures
 
 returns : tie.Need-returns
-returns c = let a = c .before .before .before .before .before .before .args in refused-is (now (a .text)) (now (a .block)) (c .before .f .given .0 .0) (ap (contentOf []) (sym (c .before .f .given .1)) ∙ c .before .before .before .judge .ensures)
+returns c = let a = c .before .before .before .before .before .before .args in refused-is (now (a .text)) (now (a .block)) (c .before .f .given .0 .0) (ap contentOf (sym (c .before .f .given .1)) ∙ c .before .before .before .judge .ensures)
 
 same-length : tie.Need-same-length
 same-length c = search needs
