@@ -1,29 +1,22 @@
--- The first standard line of a good record is read back, by the record's kind.
+-- The first line of a good record is read, by the record's kind, in any spelling.
 use mathlib.Core.Path.{_≡_, refl, sym, ap, ap₂, _∙_}
 use mathlib.Core.List.{List, [], _∷_, _++_, map}
 use Prim.Native.Nat.{ℕ, suc, _+_, _-_, _*_, _≤_, _<_, min}
 use native.Mathlib.Omega.{arith}
-use borrow.Author.Tests.{le-ltb, eq-eqb, ne-eqb}
+use borrow.Author.Tests.{le-ltb, eq-eqb}
 use lib.Dec.{eqb}
 use lib.ListN.{length, getD, take, drop, replicate, length-take, length-drop, take-append-drop}
 use lib.Seq.{take-all, take-add, take-take, length-take-le, getD-take}
 use Rattle.units.specs.Answers.{passed}
-use Rattle.words.specs.Words.{word, All, Below}
-use Rattle.words.proofs.Lists.{part-slice, all-take}
+use Rattle.words.specs.Words.{word, All}
 use Rattle.record.specs.Lines.{linesNeeded, lineCount}
-use Rattle.record.specs.Rules.{DataOk, KindOk, catalogue, header, dataRecord, RecordOk}
+use Rattle.record.specs.Rules.{CardsOk, DataOk, KindOk, catalogue, header, dataRecord, RecordOk}
 use Rattle.record.proofs.Passed.{least-at}
-use Rattle.lines.specs.Lines.{fieldsOf, dataPlan, kindShown, shown}
-use Rattle.lines.proofs.Turns.{length-fieldsOf}
-use Rattle.lines.proofs.Sizes.{sized, is-cards, is-data, data-count}
-use Rattle.columns.specs.Columns.{inkFrom}
+use Rattle.lines.specs.Lines.{Line, dataPlan, kindShown}
+use Rattle.lines.proofs.Sizes.{is-cards, is-data, data-count}
 use Rattle.reading.specs.Reading.{card, fields, gives, cardsLine, countsIn, planLine, catalogueLine, headerFields, headerLine, countFields, prologueFields, dataLine, kindLine, firstLine, inState}
-use Rattle.demands.proofs.Back.{nothing-after, field-seen, numbers-back, zeros-back}
-
--- it is not blank
-first-line : (num so w : ℕ) (ws : List ℕ) → inState num so [] (fieldsOf (w ∷ ws)) ≡ firstLine num so (fieldsOf (w ∷ ws))
-unfolding inState
-first-line num so w ws = simp (ne-eqb (inkFrom 1 (fieldsOf (w ∷ ws))) 0 (λ e. omega (arith, field-seen w ws)))
+use Rattle.text.specs.Spelled.{Blanks, SpellsAll, CardsSpelled}
+use Rattle.demands.proofs.Back.{blank-back, first-line, numbers-back, zeros-back}
 
 -- ---- words that must be zero
 
@@ -40,11 +33,23 @@ zeros-behind z m l h k a =
     let e : m - z ≡ length (drop z (take m l)) = omega (arith, length-drop z (take m l), length-take-le m l k) in
     rw (e, ← take-take z m l h) (ap (λ t. take z (take m l) ++ t) (all-zero (drop z (take m l)) a) ∙ take-append-drop z (take m l))
 
--- and so of fewer words
-fewer : (z m n : ℕ) (l : List ℕ) → z ≤ m → m ≤ n → Zeros (drop z (take n l)) → Zeros (drop z (take m l))
-fewer z m n l h k a =
-    let e : take (m - z) (drop z (take n l)) ≡ drop z (take m l) = part-slice z m (take n l) h ∙ ap (drop z) (take-take m n l k) in
-    rw e at (all-take (λ w. w ≡ 0) (m - z) (drop z (take n l)) a)
+-- ---- a good record by its kind
+
+is-catalogue : (r : List ℕ) → RecordOk r → word r 2 ≡ 2001 → CardsOk 13 r
+is-catalogue r h e = by (h .kind)
+  where
+    by : KindOk r → CardsOk 13 r
+    by (catalogue f c) = c
+    by (header f c) = absurd (omega arith)
+    by (dataRecord f d) = absurd (omega arith)
+
+is-header : (r : List ℕ) → RecordOk r → word r 2 ≡ 3002 → CardsOk 16 r
+is-header r h e = by (h .kind)
+  where
+    by : KindOk r → CardsOk 16 r
+    by (catalogue f c) = absurd (omega arith)
+    by (header f c) = c
+    by (dataRecord f d) = absurd (omega arith)
 
 -- ---- the record, with its first two words apart
 
@@ -56,9 +61,6 @@ module _ (num so a b : ℕ) (ws : List ℕ) where
   count = lineCount it
 
   module _ (h : RecordOk it) (fits : so + length it ≤ 7998) where
-    row-sized : (shows n : ℕ) → shows < 65536 → Below 65536 (count ∷ (shows ∷ take n ws))
-    row-sized shows n k = (omega (arith, sized it h .count-most), (k, all-take (λ w. w < 65536) n ws (h .sized .1 .1)))
-
     -- a Catalogue or a Header
     module _ (ne : b ≡ 1002 → ⊥) where
       whole : length it ≡ 40 * count
@@ -79,44 +81,35 @@ module _ (num so a b : ℕ) (ws : List ℕ) where
           simp (le-ltb count 1 (omega arith), le-ltb 199 count (omega arith), le-ltb 7998 (so + 40 * count) (omega arith))
           (rw (m, zeros-behind z 38 ws k g s) (ap₂ (λ (x y : ℕ). gives (x ∷ (y ∷ take 38 ws)) (replicate (count - 1) card)) t (sym e)))
 
-      abbrev row : ℕ → List ℕ
-      row shows = count ∷ (shows ∷ take 18 ws)
-
-      row-length : (shows : ℕ) → length (row shows) ≡ 20
-      row-length shows = omega (arith, length-take-le 18 ws (omega (arith, many)))
-
-      catalogue-first : b ≡ 2001 → Zeros (drop 10 (take 38 ws)) → firstLine num so (fieldsOf (row 2101)) ≡ gives (take 40 it) (replicate (count - 1) card)
-      unfolding firstLine kindLine catalogueLine
-      catalogue-first e s =
-          let l = row-length 2101 in
-          let r = row-sized 2101 18 (omega arith) in
-          rw (
-            numbers-back num (row 2101) r 0 12 (omega arith),
-            zeros-back num (row 2101) r 12 8 (omega arith) (fewer 10 18 38 ws (omega arith) (omega arith) s),
-            take-take 10 18 ws (omega arith),
-          ) (cards-line 2001 2101 10 e (omega arith) s)
-
-      header-first : b ≡ 3002 → Zeros (drop 13 (take 38 ws)) → firstLine num so (fieldsOf (row 3101)) ≡ gives (take 40 it) (replicate (count - 1) card)
-      unfolding firstLine kindLine headerLine headerFields
-      header-first e s =
-          let l = row-length 3101 in
-          let r = row-sized 3101 18 (omega arith) in
-          rw (
-            numbers-back num (row 3101) r 0 12 (omega arith),
-            numbers-back num (row 3101) r 12 3 (omega arith),
-            zeros-back num (row 3101) r 15 5 (omega arith) (fewer 13 18 38 ws (omega arith) (omega arith) s),
-            ← take-add 10 3 (take 18 ws),
-            take-take 13 18 ws (omega arith),
-          ) (cards-line 3002 3101 13 e (omega arith) s)
-
       -- it gives the words before the cards, and the cards are still to come
-      pub cards-first : inState num so [] (fieldsOf (take 20 (shown it))) ≡ gives (take 40 it) (replicate (count - 1) card)
-      cards-first = first-line num so count (kindShown b ∷ take 18 ws) ∙ by (h .kind)
-        where
-          by : KindOk it → firstLine num so (fieldsOf (row (kindShown b))) ≡ gives (take 40 it) (replicate (count - 1) card)
-          by (catalogue e c) = ap (λ k. firstLine num so (fieldsOf (row (kindShown k)))) e ∙ catalogue-first e (c .zeros)
-          by (header e c) = ap (λ k. firstLine num so (fieldsOf (row (kindShown k)))) e ∙ header-first e (c .zeros)
-          by (dataRecord e d) = absurd (ne e)
+      module _ (l : Line) (ls : List Line) where
+        abbrev CardsGiven : Type 0
+        CardsGiven = inState num so [] l ≡ gives (take 40 it) (replicate (count - 1) card)
+
+        pub catalogue-given : b ≡ 2001 → CardsSpelled 12 it l ls → CardsGiven
+        unfolding firstLine kindLine catalogueLine
+        catalogue-given e s =
+            let kind : kindShown b ≡ 2101 = ap (λ k. kindShown k) e in
+            let spells : SpellsAll l 0 (count ∷ (2101 ∷ take 10 ws)) = rw kind at (s .free) in
+            let t = length-take-le 10 ws (omega (arith, many)) in
+            first-line num so l count (spells .0)
+            ∙ rw (numbers-back num l (count ∷ (2101 ∷ take 10 ws)) spells 0 12 (omega arith), zeros-back num l 12 8 (s .zeros), take-take 10 10 ws (omega arith))
+            (cards-line 2001 2101 10 e (omega arith) (is-catalogue it h e .zeros))
+
+        pub header-given : b ≡ 3002 → CardsSpelled 15 it l ls → CardsGiven
+        unfolding firstLine kindLine headerLine headerFields
+        header-given e s =
+            let kind : kindShown b ≡ 3101 = ap (λ k. kindShown k) e in
+            let spells : SpellsAll l 0 (count ∷ (3101 ∷ take 13 ws)) = rw kind at (s .free) in
+            let t = length-take-le 13 ws (omega (arith, many)) in
+            first-line num so l count (spells .0)
+            ∙ rw (
+              numbers-back num l (count ∷ (3101 ∷ take 13 ws)) spells 0 12 (omega arith),
+              numbers-back num l (count ∷ (3101 ∷ take 13 ws)) spells 12 3 (omega arith),
+              zeros-back num l 15 5 (s .zeros),
+              ← take-add 10 3 (take 13 ws),
+              take-take 13 13 ws (omega arith),
+            ) (cards-line 3002 3101 13 e (omega arith) (is-header it h e .zeros))
 
     -- a Data record: q words behind the first two stand on its first line
     module _ (kind : b ≡ 1002) (q : ℕ) (first : min (word it 13) 20 ≡ suc (suc q)) where
@@ -158,22 +151,21 @@ module _ (num so a b : ℕ) (ws : List ℕ) where
           (take-all (14 + (suc (suc q) - 16)) (take q ws) (omega (arith, long, length-take q ws)))
 
       -- it gives its words, and the other lines of the plan are still to come
-      pub data-first : inState num so [] (fieldsOf front) ≡ gives (take (suc (suc q)) it) (map fields (drop 1 (dataPlan it)))
+      pub data-given : (l : Line) → SpellsAll l 0 front → Blanks (drop (6 * suc (suc q)) l) → inState num so [] l ≡ gives (take (suc (suc q)) it) (map fields (drop 1 (dataPlan it)))
       unfolding firstLine kindLine dataLine countFields prologueFields
-      data-first =
+      data-given line spells blank =
           let g = long in
           let l : length front ≡ suc (suc q) = omega (arith, length-take-le q ws room) in
-          let s = row-sized 1101 q (omega arith) in
           let e : min (getD (take 14 ws) 10 0) 20 ≡ suc (suc q) = ap (λ k. min k 20) (at 14 10 (omega arith)) ∙ first in
-          first-line num so count (1101 ∷ take q ws)
+          first-line num so line count (spells .0)
           ∙ rw (
-            numbers-back num front s 0 12 (omega arith),
-            numbers-back num front s 12 4 (omega arith),
+            numbers-back num line front spells 0 12 (omega arith),
+            numbers-back num line front spells 12 4 (omega arith),
             ← take-add 10 4 (take q ws),
             take-take 14 q ws g,
             counts-in,
             e,
-            numbers-back num front s 16 (suc (suc q) - 16) (omega arith),
-            nothing-after num (fieldsOf front) (6 * suc (suc q)) (omega (arith, length-fieldsOf front)),
+            numbers-back num line front spells 16 (suc (suc q) - 16) (omega arith),
+            blank-back num line (6 * suc (suc q)) blank,
             behind-counts,
           ) plan-line

@@ -7,5 +7,7 @@ pub mod Examples
 pub mod Agree
 pub mod Back
 pub mod FirstLine
-pub mod Standard
+pub mod Gathered
 pub mod Sound
+pub mod Texts
+pub mod Standard

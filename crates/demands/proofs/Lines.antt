@@ -33,7 +33,7 @@ text-most = text-bound
 
 -- ---- widths
 
-abbrev pub Narrow : ℕ → Type 0
+abbrev Narrow : ℕ → Type 0
 Narrow n = n ≤ 20
 
 part-narrow : (n : ℕ) → All Narrow (part n)
@@ -53,13 +53,13 @@ unfolding times
 times-narrow zero n = tt
 times-narrow (suc k) n = all-append Narrow (part n) (times k (part n)) (part-narrow n) (times-narrow k n)
 
-pub plan-narrow : (lprol jpar mpar nrow : ℕ) → All Narrow (plan lprol jpar mpar nrow)
+plan-narrow : (lprol jpar mpar nrow : ℕ) → All Narrow (plan lprol jpar mpar nrow)
 unfolding plan
 plan-narrow lprol jpar mpar nrow =
     all-append Narrow (part lprol) _ (part-narrow lprol)
     (all-append Narrow (part jpar) _ (part-narrow jpar) (all-append Narrow (part jpar) _ (part-narrow jpar) (times-narrow (nrow + 1) mpar)))
 
-pub fields-width : (n : ℕ) (ws : List ℕ) → n ≤ 20 → length (fieldsOf (take n ws)) ≤ 120
+fields-width : (n : ℕ) (ws : List ℕ) → n ≤ 20 → length (fieldsOf (take n ws)) ≤ 120
 fields-width n ws h = omega (arith, length-fieldsOf (take n ws), length-take n ws)
 
 laid-width : (ns ws : List ℕ) → All Narrow ns → All (λ l. length l ≤ 120) (laid ns ws)

@@ -1,151 +1,245 @@
--- The standard lines are read back: of a record, and of a list of records.
-use mathlib.Core.Path.{_≡_, sym, ap, _∙_}
-use mathlib.Core.List.{List, [], _∷_, _++_, map}
-use Prim.Native.Nat.{ℕ, suc, _+_, _-_, _≤_, _<_, min}
+-- The standard lines spell the records that they are of, so they are read back.
+use mathlib.Core.Path.{_≡_, refl, sym, ap, _∙_}
+use mathlib.Core.Logic.{inr}
+use mathlib.Core.List.{List, [], _∷_, _++_, map, append-assoc}
+use Prim.Native.Nat.{ℕ, zero, suc, _+_, _-_, _*_, _≤_, _<_}
 use native.Mathlib.Omega.{arith}
-use borrow.Author.Tests.{le-ltb, ne-eqb}
+use borrow.Author.Tests.{ne-eqb}
 use lib.Dec.{eqb}
-use lib.ListN.{length, take, drop, replicate, length-append, length-take, length-drop}
-use lib.Seq.{take-length}
+use lib.ListN.{length, getD, take, drop, replicate, drop-of-length-le, length-drop, take-append-drop}
+use lib.Seq.{drop-nil, drop-cons, drop-append-add, take-at, take-all, take-take, take-length, length-take-le, getD-take, getD-drop}
 use Rattle.units.specs.Answers.{passed}
-use Rattle.words.specs.Words.{word, joined, All}
-use Rattle.words.proofs.Lists.{all-drop}
+use Rattle.words.specs.Words.{word, bytesOf, joined, All, Below}
+use Rattle.words.proofs.Lists.{all-take, all-drop, all-append}
+use Rattle.words.proofs.Laws.{length-bytesOf, words-bytes, getD-below}
 use Rattle.record.specs.Lines.{lineCount}
-use Rattle.record.specs.Rules.{CardWord, KindOk, catalogue, header, dataRecord, RecordOk}
-use Rattle.block.proofs.Exact.{ok-long}
-use Rattle.lines.specs.Lines.{Line, fieldsOf, part, times, plan, dataPlan, laid, cardLines, kindShown, shown, linesOf}
-use Rattle.lines.specs.Text.{textOf}
-use Rattle.lines.proofs.Turns.{length-fieldsOf, part-turn, fieldsIn}
-use Rattle.lines.proofs.Sizes.{is-cards, is-data, cards-lines, data-count, data-lines, length-plan, fieldsIn-plan, text-most}
-use Rattle.cutting.specs.Cutting.{linesIn}
-use Rattle.reading.specs.Reading.{card, fields, atEnd, readLines}
+use Rattle.record.specs.Rules.{CardWord, CardsOk, KindOk, catalogue, header, dataRecord, RecordOk}
+use Rattle.field.specs.declared.Number.the-variants.{Word}
+use Rattle.field.specs.Writing.{fieldOf, FieldByte, blank, minus, figure}
+use Rattle.field.specs.Reading.{columns, readField}
+use Rattle.field.proofs.Written.{length-fieldOf, bytes-fieldOf}
+use Rattle.field.proofs.Back.{read-written}
+use Rattle.units.proofs.Choosing.{both-ways}
+use Rattle.lines.specs.Lines.{Line, fieldsOf, dataPlan, laid, cardLines, kindShown, shown, linesOf}
+use Rattle.lines.specs.Text.{ended, textOf}
+use Rattle.lines.proofs.Turns.{length-fieldsOf, fieldsIn}
+use Rattle.lines.proofs.Sizes.{sized, is-cards, cards-lines, data-lines, fieldsIn-plan, text-most}
+use Rattle.cutting.specs.Cutting.{onto, linesIn}
+use Rattle.reading.specs.Reading.{card, fields}
 use Rattle.text.specs.Block.{readText}
-use Rattle.demands.proofs.Lines.{Narrow, fields-width, plan-narrow}
-use Rattle.demands.proofs.Back.{Printed, fields-printed, laid-printed, cards-printed, lines-cut, ahead, line-back, joins, laid-back, cards-back}
-use Rattle.demands.proofs.FirstLine.{cards-first, data-first}
+use Rattle.text.specs.Spelled.{Printed, Readable, Blanks, Spells, SpellsAll, LineSpells, LinesSpell, no-lines, a-line, CardsSpelled, RecordSpelled, as-catalogue, as-header, as-data, Spelled, at-end, a-record}
+use Rattle.demands.proofs.Lines.{line-width}
+use Rattle.demands.proofs.Texts.{text-read}
+
+-- ---- the bytes of written lines
+
+byte-printed : {b : ℕ} → FieldByte b → Printed b
+byte-printed blank = omega arith
+byte-printed minus = omega arith
+byte-printed (figure n) = omega arith
+
+field-printed : (bs : List ℕ) → All FieldByte bs → All Printed bs
+field-printed [] h = tt
+field-printed (b ∷ bs) h = (byte-printed (h .0), field-printed bs (h .1))
+
+fields-printed : (ws : List ℕ) → All Printed (fieldsOf ws)
+unfolding fieldsOf
+fields-printed [] = tt
+fields-printed (w ∷ ws) = all-append Printed (fieldOf w) (fieldsOf ws) (field-printed (fieldOf w) (bytes-fieldOf w)) (fields-printed ws)
+
+card-printed : (ws : List ℕ) → All CardWord ws → All Printed (bytesOf ws)
+unfolding bytesOf
+card-printed [] h = tt
+card-printed (w ∷ ws) h = (record { least = h .0 .high-least; most = h .0 .high-most }, (record { least = h .0 .low-least; most = h .0 .low-most }, card-printed ws (h .1)))
+
+laid-printed : (ns ws : List ℕ) → All (All Printed) (laid ns ws)
+unfolding laid
+laid-printed [] ws = tt
+laid-printed (n ∷ ns) ws = (fields-printed (take n ws), laid-printed ns (drop n ws))
+
+cards-printed : (n : ℕ) (ws : List ℕ) → All CardWord ws → All (All Printed) (cardLines n ws)
+unfolding cardLines
+cards-printed zero ws h = tt
+cards-printed (suc n) ws h = (card-printed (take 40 ws) (all-take CardWord 40 ws h), cards-printed n (drop 40 ws) (all-drop CardWord 40 ws h))
+
+-- ---- the lines of a text
+
+line-cut : (l t : List ℕ) → All Printed l → linesIn (l ++ 10 ∷ t) ≡ l ∷ linesIn t
+unfolding linesIn onto
+line-cut [] t h = refl
+line-cut (b ∷ l) t h = simp (ne-eqb b 10 (λ e. omega (arith, h .0 .least)), ne-eqb b 13 (λ e. omega (arith, h .0 .least))) (ap (onto b) (line-cut l t (h .1)))
+
+lines-cut : (ls : List Line) (t : List ℕ) → All (All Printed) ls → linesIn (ended ls ++ t) ≡ ls ++ linesIn t
+unfolding ended
+lines-cut [] t h = refl
+lines-cut (l ∷ ls) t h =
+    ap linesIn (append-assoc l (10 ∷ ended ls) t)
+    ∙ line-cut l (ended ls ++ t) (h .0)
+    ∙ ap (λ ms. l ∷ ms) (lines-cut ls t (h .1))
+
+-- ---- the words on a line of fields
+
+columns-are : (n : ℕ) (l : Line) (at : ℕ) → at + n ≤ length l → columns n l at ≡ take n (drop at l)
+unfolding columns
+columns-are zero l at h = refl
+columns-are (suc n) l at h = rw (drop-cons l at 32 (omega arith)) (ap (λ bs. getD l at 32 ∷ bs) (columns-are n l (suc at) (omega arith)))
+
+fields-drop : (k : ℕ) (ws : List ℕ) → drop (6 * k) (fieldsOf ws) ≡ fieldsOf (drop k ws)
+unfolding fieldsOf
+fields-drop zero ws = refl
+fields-drop (suc k) [] = drop-nil (6 * suc k)
+fields-drop (suc k) (w ∷ ws) =
+    let e : 6 * suc k ≡ length (fieldOf w) + 6 * k = omega (arith, length-fieldOf w) in
+    ap (λ n. drop n (fieldOf w ++ fieldsOf ws)) e ∙ drop-append-add (fieldOf w) (fieldsOf ws) (6 * k) ∙ fields-drop k ws
+
+-- the columns of the field with k fields before it
+field-at : (ws : List ℕ) (k : ℕ) → k < length ws → columns 6 (fieldsOf ws) (6 * k) ≡ fieldOf (getD ws k 0)
+unfolding fieldsOf
+field-at ws k h =
+    let w = getD ws k 0 in
+    columns-are 6 (fieldsOf ws) (6 * k) (omega (arith, length-fieldsOf ws))
+    ∙ ap (take 6) (fields-drop k ws ∙ ap fieldsOf (drop-cons ws k 0 h))
+    ∙ take-at (fieldOf w) (fieldsOf (drop (suc k) ws)) 6 (length-fieldOf w)
+
+-- a line has nothing behind its end
+nothing-behind : (l : Line) (c : ℕ) → length l ≤ c → Blanks (drop c l)
+nothing-behind l c h = rw (drop-of-length-le l {i = c} h) tt
+
+module _ (ws : List ℕ) (below : Below 65536 ws) where
+  -- its fields spell its words
+  word-spelled : (k : ℕ) → k < length ws → Spells (fieldsOf ws) k (getD ws k 0)
+  word-spelled k h = ap readField (field-at ws k h) ∙ read-written (getD ws k 0) (getD-below 65536 ws k (omega arith) below)
+
+  spelled-from : (m k : ℕ) → k + m ≡ length ws → SpellsAll (fieldsOf ws) k (drop k ws)
+  spelled-from zero k h = rw (drop-of-length-le ws {i = k} (omega arith)) tt
+  spelled-from (suc m) k h = rw (drop-cons ws k 0 (omega arith)) (word-spelled k (omega arith), spelled-from m (suc k) (omega arith))
+
+  fields-spell : SpellsAll (fieldsOf ws) 0 ws
+  fields-spell = spelled-from (length ws) 0 (omega arith)
+
+-- so do fewer
+spells-take : (l : Line) (k n : ℕ) (ws : List ℕ) → SpellsAll l k ws → SpellsAll l k (take n ws)
+spells-take l k zero ws h = tt
+spells-take l k (suc n) [] h = tt
+spells-take l k (suc n) (w ∷ ws) h = (h .0, spells-take l (suc k) n ws (h .1))
+
+-- ---- the lines after a record's first
+
+laid-spell : (ns ws : List ℕ) → fieldsIn ns ≡ length ws → Below 65536 ws → LinesSpell (map fields ns) (laid ns ws) ws
+unfolding laid fieldsIn
+laid-spell [] [] s b = no-lines
+laid-spell [] (w ∷ ws) s b = absurd (omega arith)
+laid-spell (n ∷ ns) ws s b =
+    let first = take n ws in
+    let k : length first ≡ n = length-take-le n ws (omega arith) in
+    let spells : LineSpells (fields n) (fieldsOf first) first =
+    (k, fields-spell first (all-take (λ w. w < 65536) n ws b), nothing-behind (fieldsOf first) (6 * n) (omega (arith, length-fieldsOf first))) in
+    rw (take-append-drop n ws) at (a-line {x = fields n} {l = fieldsOf first} first spells (laid-spell ns (drop n ws) (omega (arith, length-drop n ws)) (all-drop (λ w. w < 65536) n ws b)))
+
+cards-spell : (n : ℕ) (ws : List ℕ) → length ws ≡ n * 40 → LinesSpell (replicate n card) (cardLines n ws) ws
+unfolding cardLines
+cards-spell zero [] h = no-lines
+cards-spell zero (w ∷ ws) h = absurd (omega arith)
+cards-spell (suc n) ws h =
+    let first = take 40 ws in
+    let l : length (bytesOf first) ≡ 80 = omega (arith, length-bytesOf first, length-take-le 40 ws (omega arith)) in
+    let whole : columns 80 (bytesOf first) 0 ≡ bytesOf first = columns-are 80 (bytesOf first) 0 (omega arith) ∙ take-all 80 (bytesOf first) (omega arith) in
+    let spells : LineSpells card (bytesOf first) first = (rw (whole, words-bytes first) refl, nothing-behind (bytesOf first) 80 (omega arith)) in
+    rw (take-append-drop 40 ws) at (a-line {x = card} {l = bytesOf first} first spells (cards-spell n (drop 40 ws) (omega (arith, length-drop 40 ws))))
 
 -- ---- a record
 
--- the cards of a Catalogue or a Header are printed
-printed-cards : (r : List ℕ) → RecordOk r → (word r 2 ≡ 1002 → ⊥) → All CardWord (drop 40 r)
-printed-cards r h ne = by (h .kind)
-  where
-    by : KindOk r → All CardWord (drop 40 r)
-    by (catalogue e c) = rw (take-length r) at (c .printed)
-    by (header e c) = rw (take-length r) at (c .printed)
-    by (dataRecord e d) = absurd (ne e)
+-- a word that must be zero
+zero-of : (l : List ℕ) (i : ℕ) → All (λ w. w ≡ 0) l → getD l i 0 ≡ 0
+zero-of [] i h = refl
+zero-of (w ∷ l) zero h = h .0
+zero-of (w ∷ l) (suc i) h = zero-of l i (h .1)
 
--- the first line of a Data record's plan, and the others
-plan-turn : (lprol jpar mpar nrow : ℕ) → 0 < lprol → plan lprol jpar mpar nrow ≡ min lprol 20 ∷ drop 1 (plan lprol jpar mpar nrow)
-unfolding plan
-plan-turn lprol jpar mpar nrow h =
-    let e = ap (λ ns. ns ++ (part jpar ++ (part jpar ++ times (nrow + 1) (part mpar)))) (part-turn lprol h) in
-    e ∙ ap (λ ns. min lprol 20 ∷ ns) (sym (ap (drop 1) e))
+zero-word : (z : ℕ) (r : List ℕ) → All (λ w. w ≡ 0) (drop z (take 40 r)) → (k : ℕ) → z ≤ k → k < 40 → getD r k 0 ≡ 0
+zero-word z r h k low high =
+    let e : z + (k - z) ≡ k = omega arith in
+    sym (getD-take 40 r k 0 high) ∙ ap (λ i. getD (take 40 r) i 0) (sym e) ∙ sym (getD-drop z (take 40 r) (k - z) 0) ∙ zero-of (drop z (take 40 r)) (k - z) h
 
-module _ (num so a b : ℕ) (ws : List ℕ) (ls : List Line) where
-  abbrev it : List ℕ
-  it = a ∷ (b ∷ ws)
+-- ---- the words as the lines show them
 
-  -- the lines of the record give its words, in front of what the lines behind them give
-  abbrev ReadBack : Type 0
-  ReadBack = readLines num so [] (linesOf it ++ ls) ≡ ahead it (readLines (num + lineCount it) (so + length it) [] ls)
+kind-below : (k : ℕ) → kindShown k < 65536
+kind-below k =
+    both-ways (λ w. w < 65536) (eqb k 2001) 2101 _ (omega arith) (both-ways (λ w. w < 65536) (eqb k 3002) 3101 1101 (omega arith) (omega arith))
 
-  module _ (h : RecordOk it) (fits : so + length it ≤ 7998) where
-    cards-read : (b ≡ 1002 → ⊥) → ReadBack
-    cards-read ne =
-        let c = is-cards it h ne in
-        let first = take 20 (shown it) in
-        let n = lineCount it - 1 in
-        ap (λ ms. readLines num so [] (ms ++ ls)) (cards-lines it (ne-eqb b 1002 ne))
-        ∙ line-back num so [] (fieldsOf first) (cardLines n (drop 40 it) ++ ls) (take 40 it) (replicate n card)
-        (fields-printed first)
-        (fields-width 20 (shown it) (omega arith))
-        (cards-first num so a b ws h fits ne)
-        ∙ ap (ahead (take 40 it))
-        (cards-back n (drop 40 it) (suc num) (so + length (take 40 it)) ls (omega (arith, length-drop 40 it, c .count, c .least, c .whole)) (printed-cards it h ne))
-        ∙ joins 40 it (suc num + n) (num + lineCount it) so ls (omega (arith, c .count, c .least)) (c .least)
+module _ (r : List ℕ) (h : RecordOk r) where
+  shown-below : Below 65536 (shown r)
+  shown-below =
+      let total = getD-below 65536 r 0 (omega arith) (h .sized) in
+      (omega (arith, sized r h .count-most, h .total), (kind-below (word r 2), all-drop (λ w. w < 65536) 2 r (h .sized)))
 
-    -- a Data record: q words behind the first two stand on its first line, and the others on the lines behind it
-    module _ (kind : b ≡ 1002) (q : ℕ) (first : min (word it 13) 20 ≡ suc (suc q)) where
-      abbrev front : List ℕ
-      front = lineCount it ∷ (1101 ∷ take q ws)
+  shown-same : (k : ℕ) → 2 ≤ k → getD (shown r) k 0 ≡ getD r k 0
+  shown-same zero low = absurd (omega arith)
+  shown-same (suc zero) low = absurd (omega arith)
+  shown-same (suc (suc k)) low = getD-drop 2 r k 0 ∙ ap (λ i. getD r i 0) (omega arith)
 
-      abbrev more : List ℕ
-      more = drop 1 (dataPlan it)
+  -- a Catalogue or a Header
+  module _ (ne : word r 2 ≡ 1002 → ⊥) where
+    its-lines : linesOf r ≡ fieldsOf (take 20 (shown r)) ∷ cardLines (lineCount r - 1) (drop 40 r)
+    its-lines = cards-lines r (ne-eqb (word r 2) 1002 ne)
 
-      turn : dataPlan it ≡ suc (suc q) ∷ more
-      turn = plan-turn (word it 13) (word it 14) (word it 15) (word it 16) (omega (arith, is-data it h kind .lprol .least-is)) ∙ ap (λ k. k ∷ more) first
+    cards-spelled : (z : ℕ) → 3 ≤ z → z ≤ 21 → CardsOk z r → CardsSpelled (z - 1) r (fieldsOf (take 20 (shown r))) (cardLines (lineCount r - 1) (drop 40 r))
+    cards-spelled z low high c =
+        let row = take 20 (shown r) in
+        let count = is-cards r h ne .count in
+        let size : length row ≡ 20 = length-take-le 20 (shown r) (omega (arith, length-drop 2 r, c .size)) in
+        let below = all-take (λ w. w < 65536) 20 (shown r) shown-below in
+        let zero : (k : ℕ) → z - 1 ≤ k → k < 20 → getD row k 0 ≡ 0 =
+        λ k from to. getD-take 20 (shown r) k 0 to ∙ shown-same k (omega arith) ∙ zero-word (z - 1) r (c .zeros) k from (omega arith) in
+        record {
+          free = rw (take-take (z - 1) 20 (shown r) (omega arith)) at (spells-take (fieldsOf row) 0 (z - 1) row (fields-spell row below));
+          zeros = λ k from to. inr (word-spelled row below k (omega arith) ∙ ap (λ w. Word w) (zero k from to));
+          cards = cards-spell (lineCount r - 1) (drop 40 r) (omega (arith, length-drop 40 r, c .size));
+        }
 
-      cut : linesOf it ≡ fieldsOf front ∷ laid more (drop q ws)
-      unfolding laid
-      cut =
-          data-lines it (ap (λ k. eqb k 1002) kind)
-          ∙ ap (λ ns. laid ns (shown it)) turn
-          ∙ ap (λ k. fieldsOf (lineCount it ∷ (kindShown k ∷ take q ws)) ∷ laid more (drop q ws)) kind
+    cards-lines-printed : (z : ℕ) → CardsOk z r → All (All Printed) (linesOf r)
+    cards-lines-printed z c = rw its-lines (fields-printed (take 20 (shown r)), cards-printed (lineCount r - 1) (drop 40 r) (rw (take-length r) at (c .printed)))
 
-      narrow : All Narrow more
-      narrow = let n : All Narrow (suc (suc q) ∷ more) = rw turn at (plan-narrow (word it 13) (word it 14) (word it 15) (word it 16)) in n .1
+  lines-spelled : RecordSpelled r (linesOf r)
+  lines-spelled = by (h .kind)
+    where
+      by : KindOk r → RecordSpelled r (linesOf r)
+      by (catalogue e c) = rw (its-lines (λ f. omega arith)) (as-catalogue e (cards-spelled (λ f. omega arith) 13 (omega arith) (omega arith) c))
+      by (header e c) = rw (its-lines (λ f. omega arith)) (as-header e (cards-spelled (λ f. omega arith) 16 (omega arith) (omega arith) c))
+      by (dataRecord e d) =
+          let all = fieldsIn-plan (word r 13) (word r 14) (word r 15) (word r 16) in
+          rw (data-lines r (ap (λ k. eqb k 1002) e)) (as-data e (laid-spell (dataPlan r) (shown r) (omega (arith, d .sum, d .lprol .least-is, length-drop 2 r)) shown-below))
 
-      filled : fieldsIn more ≡ length (drop q ws)
-      unfolding fieldsIn
-      filled =
-          omega (arith, ap fieldsIn turn, fieldsIn-plan (word it 13) (word it 14) (word it 15) (word it 16), is-data it h kind .sum, length-drop q ws)
-
-      lines-left : suc (length more) ≡ lineCount it
-      lines-left =
-          ap length (sym turn) ∙ length-plan (word it 13) (word it 14) (word it 15) (word it 16) ∙ sym (data-count it (ap (λ k. eqb k 1002) kind))
-
-      data-read : ReadBack
-      data-read =
-          let p = suc (suc q) in
-          ap (λ ms. readLines num so [] (ms ++ ls)) cut
-          ∙ line-back num so [] (fieldsOf front) (laid more (drop q ws) ++ ls) (take p it) (map fields more)
-          (fields-printed front)
-          (omega (arith, length-fieldsOf front, length-take q ws))
-          (data-first num so a b ws h fits kind q first)
-          ∙ ap (ahead (take p it))
-          (laid-back more (drop q ws) (suc num) (so + length (take p it)) ls narrow filled (all-drop (λ w. w < 65536) q ws (h .sized .1 .1)))
-          ∙ joins p it (suc num + length more) (num + lineCount it) so ls (omega (arith, lines-left)) (omega (arith, is-data it h kind .sum))
-
-    record-read : ReadBack
-    record-read = by (h .kind)
-      where
-        by : KindOk it → ReadBack
-        by (catalogue e c) = cards-read (λ f. omega arith)
-        by (header e c) = cards-read (λ f. omega arith)
-        by (dataRecord e d) = data-read e (min (word it 13) 20 - 2) (omega (arith, d .lprol .least-is))
-
-record-back : (r : List ℕ) (num so : ℕ) (ls : List Line) → RecordOk r → so + length r ≤ 7998
-    → readLines num so [] (linesOf r ++ ls) ≡ ahead r (readLines (num + lineCount r) (so + length r) [] ls)
-record-back [] num so ls h fits = absurd (omega (arith, ok-long [] h))
-record-back (a ∷ []) num so ls h fits = absurd (omega (arith, ok-long (a ∷ []) h))
-record-back (a ∷ (b ∷ ws)) num so ls h fits = record-read num so a b ws ls h fits
+  lines-printed : All (All Printed) (linesOf r)
+  lines-printed = by (h .kind)
+    where
+      by : KindOk r → All (All Printed) (linesOf r)
+      by (catalogue e c) = cards-lines-printed (λ f. omega arith) 13 c
+      by (header e c) = cards-lines-printed (λ f. omega arith) 16 c
+      by (dataRecord e d) = rw (data-lines r (ap (λ k. eqb k 1002) e)) (laid-printed (dataPlan r) (shown r))
 
 -- ---- a text
 
-lines-printed : (r : List ℕ) → RecordOk r → All (All Printed) (linesOf r)
-lines-printed r h = by (h .kind)
-  where
-    cards : (word r 2 ≡ 1002 → ⊥) → All (All Printed) (linesOf r)
-    cards ne = rw (cards-lines r (ne-eqb (word r 2) 1002 ne)) (fields-printed (take 20 (shown r)), cards-printed (lineCount r - 1) (drop 40 r) (printed-cards r h ne))
+all-readable : (ls : List Line) → All (All Printed) ls → All (λ l. length l ≤ 120) ls → All Readable ls
+all-readable [] p w = tt
+all-readable (l ∷ ls) p w = (record { short = w .0; bytes = p .0 }, all-readable ls (p .1) (w .1))
 
-    by : KindOk r → All (All Printed) (linesOf r)
-    by (catalogue e c) = cards (λ f. omega arith)
-    by (header e c) = cards (λ f. omega arith)
-    by (dataRecord e d) = rw (data-lines r (ap (λ k. eqb k 1002) e)) (laid-printed (dataPlan r) (shown r))
+-- the lines of records are readable, and spell them
+record Standard (rs : List (List ℕ)) : Type 0 where
+  lines : All Readable (linesIn (textOf rs))
+  spelled : Spelled (linesIn (textOf rs)) rs
 
--- some records, or records behind words that were read already
-records-back : (rs : List (List ℕ)) (num so : ℕ) → All RecordOk rs → so + length (joined rs) ≤ 7998 → 1 ≤ so + length rs
-    → readLines num so [] (linesIn (textOf rs)) ≡ passed (joined rs)
-unfolding readLines atEnd linesIn textOf joined
-records-back [] num so h fits some = simp (ne-eqb so 0 (λ e. omega arith))
-records-back (r ∷ rs) num so h fits some =
-    let l = length-append r (joined rs) in
-    ap (readLines num so []) (lines-cut (linesOf r) (textOf rs) (lines-printed r (h .0)))
-    ∙ record-back r num so (linesIn (textOf rs)) (h .0) (omega arith)
-    ∙ ap (ahead r) (records-back rs (num + lineCount r) (so + length r) (h .1) (omega arith) (omega (arith, ok-long r (h .0))))
+standard-lines : (rs : List (List ℕ)) → All RecordOk rs → Standard rs
+unfolding linesIn textOf
+standard-lines [] h = record { lines = tt; spelled = at-end }
+standard-lines (r ∷ rs) h =
+    let s = standard-lines rs (h .1) in
+    let cut = lines-cut (linesOf r) (textOf rs) (lines-printed r (h .0)) in
+    record {
+      lines = rw cut (all-append Readable (linesOf r) (linesIn (textOf rs)) (all-readable (linesOf r) (lines-printed r (h .0)) (line-width r (h .0))) (s .lines));
+      spelled = rw cut (a-record (lines-spelled r (h .0)) (s .spelled));
+    }
 
 pub text-back : (rs : List (List ℕ)) → All RecordOk rs → 1 ≤ length rs → length (joined rs) ≤ 7998 → readText (textOf rs) ≡ passed (joined rs)
-unfolding readText
 text-back rs h some fits =
-    simp (le-ltb 65536 (length (textOf rs)) (omega (arith, text-most rs h some))) (records-back rs 1 0 h (omega arith) (omega arith))
+    let s = standard-lines rs h in
+    text-read (textOf rs) rs (record { size = omega (arith, text-most rs h some); lines = s .lines; spelled = s .spelled; each = h; some = some; most = fits })

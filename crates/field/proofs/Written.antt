@@ -1,11 +1,10 @@
--- A written field is six columns, each a blank, a minus or a digit, and the last one is a digit.
-use mathlib.Core.Path.{_≡_, ap}
-use mathlib.Core.List.{List, [], _∷_, _++_, append-assoc}
+-- A written field is six columns, each a blank, a minus or a digit.
+use mathlib.Core.Path.{_≡_}
+use mathlib.Core.List.{List, [], _∷_, _++_}
 use Prim.Native.Nat.{ℕ, zero, suc, _-_, _/_, _≤_}
 use native.Mathlib.Omega.{arith}
 use lib.Dec.{ltb}
-use lib.ListN.{length, getD, replicate, length-append, length-replicate}
-use lib.Seq.{getD-at}
+use lib.ListN.{length, replicate, length-append, length-replicate}
 use Rattle.units.specs.Choice.{if_then_else_}
 use Rattle.words.specs.Words.{All}
 use Rattle.words.proofs.Lists.{all-append}
@@ -45,13 +44,3 @@ bytes-fieldOf w =
     (all-append FieldByte (signOf w) (decimal 5 (magnitudeOf w))
     (both-ways (All FieldByte) (ltb w 32768) [] (45 ∷ []) tt (minus, tt))
     (bytes-decimal 5 (magnitudeOf w)))
-
-last-of : (f before : List ℕ) (b : ℕ) → f ≡ before ++ b ∷ [] → length f ≡ 6 → getD f 5 32 ≡ b
-last-of f before b e h = rw e (getD-at before b [] 32 5 (omega (arith, length-append before (b ∷ []), ap length e)))
-
-pub last-fieldOf : (w : ℕ) → getD (fieldOf w) 5 32 ≡ digit (magnitudeOf w)
-unfolding fieldOf decimal
-last-fieldOf w =
-    let n : ℕ = magnitudeOf w in
-    let front : List ℕ = if ltb n 10 then [] else decimal 4 (n / 10) in
-    last-of (fieldOf w) (blanks (6 - length (number w)) ++ signOf w ++ front) (digit n) (simp append-assoc) (length-fieldOf w)

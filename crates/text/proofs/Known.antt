@@ -21,7 +21,7 @@ use Rattle.reading.specs.Reading.{Shape, Read, lineStep, atEnd, readLines}
 use Rattle.text.specs.Block.{readText, toBlock}
 use Rattle.text.proofs.Told.{told, Known, then-known}
 use Rattle.units.proofs.Choosing.{by-test}
-use Rattle.text.proofs.Opened.{wordsToCome, skipped, opens, Given, line-known}
+use Rattle.text.proofs.Opened.{wordsToCome, skipped, opens, Given, Taken, line-wide, line-known}
 
 -- ---- the lines of a text
 
@@ -49,11 +49,11 @@ pub record Room (so : ℕ) (ws : List ℕ) : Type 0 where
   pub most : so + length ws ≤ 7998
 
 -- an accepted line leaves room for the lines to come
-pub room-on : (so : ℕ) (rest : List Shape) (s : Read) → so + wordsToCome rest ≤ 7998 → Given so rest s → so + length (s .words) + wordsToCome (s .rest) ≤ 7998
+pub room-on : (so : ℕ) (rest : List Shape) (l : Line) (s : Read) → so + wordsToCome rest ≤ 7998 → Given so rest l s → so + length (s .words) + wordsToCome (s .rest) ≤ 7998
 unfolding wordsToCome
-room-on so (x ∷ rest) s h g = rw (g .0) (omega (arith, g .1 .count))
-room-on so [] s h (skipped w r) = rw (w, r) (omega arith)
-room-on so [] s h (opens o) = omega (arith, o .room)
+room-on so (x ∷ rest) l s h g = rw (g .0) (omega (arith, line-wide x l (s .words) (g .1)))
+room-on so [] l s h (skipped b w r) = rw (w, r) (omega arith)
+room-on so [] l s h (opens o) = omega (arith, o .total, o .room)
 
 end-known : (num so : ℕ) (rest : List Shape) → num < 2 ^ 24 → so + wordsToCome rest ≤ 7998 → Known (Room so) (atEnd num so rest)
 unfolding atEnd wordsToCome
@@ -66,9 +66,9 @@ lines-known : (num so : ℕ) (rest : List Shape) (ls : List Line) → num + leng
 unfolding readLines
 lines-known num so rest [] hn h = end-known num so rest (omega arith) h
 lines-known num so rest (l ∷ ls) hn h =
-    then-known (Given so rest) (Room so) (lineStep num so rest l) _ (line-known num (omega arith) so l rest h)
+    then-known (Taken so rest l) (Room so) (lineStep num so rest l) _ (line-known num (omega arith) so l rest h)
     (λ s g. then-known (Room (so + length (s .words))) (Room so) (readLines (suc num) (so + length (s .words)) (s .rest) ls) _
-    (lines-known (suc num) (so + length (s .words)) (s .rest) ls (omega arith) (room-on so rest s h g))
+    (lines-known (suc num) (so + length (s .words)) (s .rest) ls (omega arith) (room-on so rest l s h (g .given)))
     (λ ws r. omega (arith, length-append (s .words) ws)))
 
 -- every refusal of a text is told, and an accepted one has 1 to 7,998 record words

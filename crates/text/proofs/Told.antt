@@ -33,7 +33,3 @@ then-known P Q (refused r) f h on = h
 pub known-as : {A : Type 0} (P Q : A → Type 0) (v : Verdict A) → Known P v → ((x : A) → P x → Q x) → Known Q v
 known-as P Q (passed x) h f = f x h
 known-as P Q (refused r) h f = h
-
--- where nothing is asked of what is given
-abbrev pub Any : {A : Type 0} → A → Type 0
-Any x = Unit {0}

@@ -1,0 +1,25 @@
+-- Demand 2: which texts are accepted, with no order of tests in it.
+use mathlib.Core.Logic.{_↔_}
+use mathlib.Core.Path.{_≡_}
+use mathlib.Core.List.{List}
+use Prim.Native.Nat.{ℕ, _≤_}
+use lib.ListN.{length}
+use Rattle.units.specs.Answers.{passed}
+use Rattle.words.specs.Words.{joined, All}
+use Rattle.record.specs.Rules.{RecordOk}
+use Rattle.cutting.specs.Cutting.{linesIn}
+use Rattle.text.specs.Block.{readText}
+use Rattle.text.specs.Spelled.{Readable, Spelled}
+
+-- this text is one of these records: at most 65,536 bytes, whose lines are the records in some spelling with blank lines around them
+pub record IsText (t : List ℕ) (rs : List (List ℕ)) : Type 0 where
+  pub size : length t ≤ 65536
+  pub lines : All Readable (linesIn t)
+  pub spelled : Spelled (linesIn t) rs
+  pub each : All RecordOk rs
+  pub some : 1 ≤ length rs
+  pub most : length (joined rs) ≤ 7998
+
+-- a text is accepted exactly when it is one of good records, and then it is read as their words
+abbrev pub TextsExactly : Type 0
+TextsExactly = (t ws : List ℕ) → (readText t ≡ passed ws) ↔ ((rs : List (List ℕ)) × IsText t rs × (ws ≡ joined rs))
