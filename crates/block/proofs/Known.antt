@@ -13,6 +13,7 @@ use lib.Seq.{length-slice}
 use Rattle.units.specs.Choice.{if_then_else_}
 use Rattle.units.specs.declared.Answer.{Answer}
 use Rattle.units.specs.Answers.{answer, Verdict, passed, refused, answered, onward, Packs}
+use Rattle.units.proofs.Choosing.{by-test, both-ways}
 use Rattle.words.specs.Words.{wordsOf, word, Below}
 use Rattle.words.proofs.Laws.{words-below, getD-below}
 use Rattle.words.proofs.Lists.{all-take, all-drop}
@@ -37,12 +38,7 @@ told n k b c hn hk hb hc =
 
 -- one row of the order: its numbers need only be known where its test holds, and the rest where it does not
 row : (t : Bool) (r : Answer) (v : Verdict ℕ) → (t ≡ true → Told r) → (t ≡ false → Known v) → Known (if t then refused r else v)
-row true r v h k = h refl
-row false r v h k = k refl
-
-either : (t : Bool) (u v : Verdict ℕ) → Known u → Known v → Known (if t then u else v)
-either true u v h k = h
-either false u v h k = k
+row t r v h k = by-test Known t (refused r) v h k
 
 module _ (n : ℕ) (hn : n < 2 ^ 16) (rest : List ℕ) (below : word rest 1 < 2 ^ 16) where
   cards-known : (z : ℕ) → 1 ≤ z → z ≤ 41 → Known (judgeCards n z rest)
@@ -74,9 +70,9 @@ module _ (n : ℕ) (hn : n < 2 ^ 16) (rest : List ℕ) (below : word rest 1 < 2 
   unfolding judgeRecord
   record-known =
       row (ltb (length rest) 16) (answer 4 n 1 0) _ (λ _. told 4 n 1 0 (omega arith) hn (omega arith) (omega arith))
-      (λ _. either (eqb (word rest 2) 2001) (judgeCards n 13 rest) _ (cards-known 13 (omega arith) (omega arith))
-      (either (eqb (word rest 2) 3002) (judgeCards n 16 rest) _ (cards-known 16 (omega arith) (omega arith))
-      (either (eqb (word rest 2) 1002) (judgeData n rest) (refused (answer 5 n 2 0)) data-known (told 5 n 2 0 (omega arith) hn (omega arith) (omega arith)))))
+      (λ _. both-ways Known (eqb (word rest 2) 2001) (judgeCards n 13 rest) _ (cards-known 13 (omega arith) (omega arith))
+      (both-ways Known (eqb (word rest 2) 3002) (judgeCards n 16 rest) _ (cards-known 16 (omega arith) (omega arith))
+      (both-ways Known (eqb (word rest 2) 1002) (judgeData n rest) (refused (answer 5 n 2 0)) data-known (told 5 n 2 0 (omega arith) hn (omega arith) (omega arith)))))
 
 walk-known : (skip n : ℕ) (ws : List ℕ) → n + length ws < 2 ^ 16 → Below 65536 ws → Known (walk skip n ws)
 unfolding walk

@@ -15,7 +15,8 @@ use Rattle.report.specs.Refusal.{refusalLine, printed}
 use Rattle.report.proofs.Lines.{printed-most}
 use Rattle.text.specs.Block.{readText, toBlock}
 use Rattle.text.proofs.Told.{Known}
-use Rattle.text.proofs.Known.{Room, text-known, words-room, length-block}
+use Rattle.text.proofs.Known.{Room, text-known, words-room}
+use Rattle.words.proofs.Sealing.{length-framed}
 use Rattle.blocked.specs.Printed.{printedOf}
 
 -- the bytes of a block
@@ -24,7 +25,7 @@ blockOf ws = bytesOf (framed ws)
 
 pub printed-bound : (t : List ℕ) → length (printedOf t) ≤ 16000
 unfolding printedOf
-printed-bound t = printed-most blockOf 16000 (omega arith) (readText t) (λ ws e. omega (arith, length-block ws, words-room t ws e))
+printed-bound t = printed-most blockOf 16000 (omega arith) (readText t) (λ ws e. omega (arith, length-framed ws, words-room t ws e))
 
 module _ (t out : List ℕ) (h : 16000 ≤ length out) (r : Answer) (after : List ℕ) where
   -- the outcome for what is read of the text
@@ -33,7 +34,7 @@ module _ (t out : List ℕ) (h : 16000 ≤ length out) (r : Answer) (after : Lis
 
   -- a block has room, and is put in
   put-in : (ws : List ℕ) → Room 0 ws → From (passed ws) → leaves r after ≡ leaves (answer 0 (0 + length (blockOf ws)) 0 0) (sets out 0 (blockOf ws))
-  put-in ws k e = e ∙ sym (all-written out (blockOf ws) (omega (arith, length-block ws, k .most)) (record { ends = refl; bytes = refl }))
+  put-in ws k e = e ∙ sym (all-written out (blockOf ws) (omega (arith, length-framed ws, k .most)) (record { ends = refl; bytes = refl }))
 
   pub when-accepted : leaves r after ≡ toBlock t out → r .n ≡ 0 → Put out 0 (printedOf t) after (r .a)
   unfolding toBlock written printedOf

@@ -1,3 +1,4 @@
+pub mod Columns
 pub mod Scan
 pub mod Row
 pub mod Zeros

@@ -22,10 +22,10 @@ unfolding filled numbers
 fill-done num l k m row e = rw (e, append-nil)
 
 -- the field behind so many columns holds this number
-module _ (num : ℕ) (l : List ℕ) (k : ℕ) (n : Number) (at : ℕ) (e : at ≡ k * 6) (r : n ≡ readField (columns 6 l at)) where
+module _ (num : ℕ) (l : List ℕ) (k : ℕ) (n : Number) (at : ℕ) (e : at ≡ 6 * k) (r : n ≡ readField (columns 6 l at)) where
   pub number-is : number num l k ≡ wordIn num k n
   unfolding number
-  number-is = let a : 6 * k ≡ at = omega arith in rw (a, sym r)
+  number-is = rw (sym e, sym r)
 
   module _ (end : ℕ) (row : List ℕ) (h : k < end) where
     left : end - k ≡ suc (end - (k + 1))

@@ -10,7 +10,7 @@ use lib.Dec.{ltb, eqb}
 use lib.ListN.{length, getD, drop, drop-of-length-le}
 use lib.Seq.{drop-cons}
 use Rattle.units.specs.Choice.{if_then_else_}
-use Rattle.record.specs.Judging.{passing, within}
+use Rattle.record.specs.Judging.{passing, within, plainIn}
 use Rattle.field.specs.Reading.{columns}
 use Rattle.columns.specs.Columns.{badColumn, inkFrom}
 
@@ -24,11 +24,6 @@ module _ (l : List ℕ) (i : ℕ) where
     pub ink-end : inkFrom k (drop i l) ≡ 0
     unfolding inkFrom
     ink-end = rw (drop-of-length-le l {i = i} h)
-
-pub length-columns : (n : ℕ) (l : List ℕ) (at : ℕ) → length (columns n l at) ≡ n
-unfolding columns
-length-columns zero l at = refl
-length-columns (suc n) l at = ap suc (length-columns n l (suc at))
 
 -- where the plain bytes of a line and its 120 columns end, there is its first bad column
 module _ (b : ℕ) (l : List ℕ) where
@@ -49,36 +44,36 @@ module _ (b : ℕ) (l : List ℕ) where
   past-byte k h = simp (lt-ltb 120 k h)
 
 -- "first such column": after the plain bytes, if they end before column 120
-pub bad-after : (k : ℕ) (l : List ℕ) → k + passing (within 32 126) l ≤ 120 → passing (within 32 126) l < length l → badColumn k l ≡ k + passing (within 32 126) l
+pub bad-after : (k : ℕ) (l : List ℕ) → k + plainIn l ≤ 120 → plainIn l < length l → badColumn k l ≡ k + plainIn l
 unfolding passing
 bad-after k [] h m = absurd (omega arith)
 bad-after k (b ∷ l) h m = by (within 32 126 b) refl (bad-after (suc k) l) h m
   where
-    by : (t : Bool) → within 32 126 b ≡ t → (suc k + passing (within 32 126) l ≤ 120 → passing (within 32 126) l < length l → badColumn (suc k) l ≡ suc k + passing (within 32 126) l) →
-        k + (if t then suc (passing (within 32 126) l) else 0) ≤ 120 → (if t then suc (passing (within 32 126) l) else 0) < suc (length l) →
-        badColumn k (b ∷ l) ≡ k + (if t then suc (passing (within 32 126) l) else 0)
+    by : (t : Bool) → within 32 126 b ≡ t → (suc k + plainIn l ≤ 120 → plainIn l < length l → badColumn (suc k) l ≡ suc k + plainIn l) →
+        k + (if t then suc (plainIn l) else 0) ≤ 120 → (if t then suc (plainIn l) else 0) < suc (length l) →
+        badColumn k (b ∷ l) ≡ k + (if t then suc (plainIn l) else 0)
     by true e ih g n = plain-byte b l k (omega arith) e ∙ ih (omega arith) (omega arith) ∙ omega arith
     by false e ih g n = odd-byte b l k e ∙ omega arith
 
 -- at 121, if there are so many
-pub bad-past : (k : ℕ) (l : List ℕ) → k ≤ 121 → 121 ≤ k + passing (within 32 126) l → 121 < k + length l → badColumn k l ≡ 121
+pub bad-past : (k : ℕ) (l : List ℕ) → k ≤ 121 → 121 ≤ k + plainIn l → 121 < k + length l → badColumn k l ≡ 121
 unfolding passing
 bad-past k [] low h m = absurd (omega arith)
 bad-past k (b ∷ l) low h m = by (ltb 120 k) refl (within 32 126 b) refl (bad-past (suc k) l) h
   where
-    by : (s : Bool) → ltb 120 k ≡ s → (t : Bool) → within 32 126 b ≡ t → (suc k ≤ 121 → 121 ≤ suc k + passing (within 32 126) l → 121 < suc k + length l → badColumn (suc k) l ≡ 121) →
-        121 ≤ k + (if t then suc (passing (within 32 126) l) else 0) → badColumn k (b ∷ l) ≡ 121
+    by : (s : Bool) → ltb 120 k ≡ s → (t : Bool) → within 32 126 b ≡ t → (suc k ≤ 121 → 121 ≤ suc k + plainIn l → 121 < suc k + length l → badColumn (suc k) l ≡ 121) →
+        121 ≤ k + (if t then suc (plainIn l) else 0) → badColumn k (b ∷ l) ≡ 121
     by true d t e ih g = past-byte b l k (ltb-true 120 k d) ∙ omega (arith, ltb-true 120 k d)
     by false d true e ih g = let c = ltb-false 120 k d in plain-byte b l k c e ∙ ih (omega arith) (omega arith) (omega arith)
     by false d false e ih g = absurd (omega (arith, ltb-false 120 k d))
 
 -- nowhere, if all of at most 120 are plain
-pub bad-nowhere : (k : ℕ) (l : List ℕ) → k + length l ≤ 121 → passing (within 32 126) l ≡ length l → badColumn k l ≡ 0
+pub bad-nowhere : (k : ℕ) (l : List ℕ) → k + length l ≤ 121 → plainIn l ≡ length l → badColumn k l ≡ 0
 unfolding passing badColumn
 bad-nowhere k [] h m = refl
 bad-nowhere k (b ∷ l) h m = by (within 32 126 b) refl (bad-nowhere (suc k) l) m
   where
-    by : (t : Bool) → within 32 126 b ≡ t → (suc k + length l ≤ 121 → passing (within 32 126) l ≡ length l → badColumn (suc k) l ≡ 0) →
-        (if t then suc (passing (within 32 126) l) else 0) ≡ suc (length l) → badColumn k (b ∷ l) ≡ 0
+    by : (t : Bool) → within 32 126 b ≡ t → (suc k + length l ≤ 121 → plainIn l ≡ length l → badColumn (suc k) l ≡ 0) →
+        (if t then suc (plainIn l) else 0) ≡ suc (length l) → badColumn k (b ∷ l) ≡ 0
     by true e ih g = plain-byte b l k (omega arith) e ∙ ih (omega arith) (omega arith)
     by false e ih g = absurd (omega arith)

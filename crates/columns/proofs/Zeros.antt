@@ -11,9 +11,9 @@ use Rattle.units.specs.Answers.{passed, refused}
 use Rattle.columns.specs.Columns.{inkAfter, blankField, zeroField, zeros}
 
 -- the first column that is not blank behind so many columns tells whether the field is
-pub blank-is : (l : List ℕ) (k at c : ℕ) → at ≡ k * 6 → c ≡ inkAfter at l → blankField l k ≡ (eqb c 0 || ltb (at + 6) c)
+pub blank-is : (l : List ℕ) (k at c : ℕ) → at ≡ 6 * k → c ≡ inkAfter at l → blankField l k ≡ (eqb c 0 || ltb (at + 6) c)
 unfolding blankField
-blank-is l k at c e ink = let a : 6 * k ≡ at = omega arith in rw (a, sym ink)
+blank-is l k at c e ink = rw (sym e, sym ink)
 
 module _ (num : ℕ) (l : List ℕ) (k end : ℕ) where
   pub zeros-done : end - k ≡ 0 → zeros num l k (end - k) ≡ passed tt

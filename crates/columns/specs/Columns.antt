@@ -5,6 +5,7 @@ use mathlib.Core.Bool.{Bool, not, _||_}
 use lib.Dec.{ltb, eqb}
 use lib.ListN.{drop}
 use Rattle.units.specs.Choice.{if_then_else_}
+use Rattle.units.specs.Units.{columnsOfFields}
 use Rattle.units.specs.Answers.{answer, Verdict, passed, refused, onward}
 use Rattle.record.specs.Judging.{within}
 use Rattle.field.specs.Reading.{readField, columns}
@@ -32,7 +33,7 @@ blankAfter num l c = if eqb (inkAfter c l) 0 then passed tt else refused (answer
 
 -- the first column of the field with k fields before it
 abbrev pub columnOf : ℕ → ℕ
-columnOf k = 6 * k + 1
+columnOf k = columnsOfFields k + 1
 
 -- row 22: "bad number field: line, field's first column"
 abbrev pub wordIn : ℕ → ℕ → Number → Verdict ℕ
@@ -41,7 +42,7 @@ wordIn num k Bad = refused (answer 22 num (columnOf k) 0)
 
 -- the number in the field with k fields before it
 unfoldable pub number : ℕ → Line → ℕ → Verdict ℕ
-number num l k = wordIn num k (readField (columns 6 l (6 * k)))
+number num l k = wordIn num k (readField (columns 6 l (columnsOfFields k)))
 
 -- "fields by 22": the numbers in m fields from there on
 unfoldable pub numbers : ℕ → Line → ℕ → ℕ → Verdict (List ℕ)
@@ -50,7 +51,7 @@ numbers num l k (suc m) = onward (number num l k) (λ w. onward (numbers num l (
 
 -- that field is blank: the first column after those k fields that is not blank is none of its six
 unfoldable pub blankField : Line → ℕ → Bool
-blankField l k = eqb (inkAfter (6 * k) l) 0 || ltb (6 * k + 6) (inkAfter (6 * k) l)
+blankField l k = eqb (inkAfter (columnsOfFields k) l) 0 || ltb (columnsOfFields k + 6) (inkAfter (columnsOfFields k) l)
 
 -- "there blank means 0, and a value other than 0 is refused"
 unfoldable pub zeroField : ℕ → Line → ℕ → Verdict (Unit {0})

@@ -9,7 +9,7 @@ ghost use mathlib.Core.List.{_++_};
 ghost use Prim.Native.Nat.{_+_, _*_, _^_, _≤_, _<_};
 ghost use lib.ListN.{length, take};
 ghost use Rattle.units.specs.Answers.{answer, passed, onward, Packs};
-ghost use Rattle.record.specs.Judging.{passing, within};
+ghost use Rattle.record.specs.Judging.{plainIn};
 ghost use Rattle.columns.specs.Columns.{badColumn, inkAfter, blankAfter, blankField, columnOf, number, numbers, zeroField, zeros};
 ghost use Rattle.columns.specs.Cases.{flawOf, checkedOf};
 
@@ -35,7 +35,7 @@ pub enum Checked {
 
 // The first column that is past 120 or holds a byte other than 32 to 126, of a line that begins with so many that are; 0 where there is none.
 pub fn bad_column(line: &[u8], plain: Bytes) -> Bytes
-    requires { ⌜ plain .0 ≡ passing (within 32 126) (now line) ⌝ }
+    requires { ⌜ plain .0 ≡ plainIn (now line) ⌝ }
     ensures { λ r. ⌜ r .0 ≡ badColumn 1 (now (line .entry)) ⌝ }
 {
     let size = line.len();

@@ -11,8 +11,8 @@ use lib.Seq.{drop-cons, drop-drop, getD-drop}
 use borrow.Author.Tests.{lt-ltb, le-ltb, ne-eqb, eqb-true, leb-true}
 use Rattle.units.specs.Choice.{if_then_else_}
 use Rattle.units.proofs.Verdicts.{and-on}
-use Rattle.record.specs.Judging.{passing, within}
-use Rattle.cutting.specs.Cutting.{onto, linesIn, endLength, plainIn}
+use Rattle.record.specs.Judging.{passing, within, plainIn}
+use Rattle.cutting.specs.Cutting.{onto, linesIn, endLength}
 
 -- the first line's length, and its length with its end
 unfoldable pub lineLength : List ℕ → ℕ

@@ -6,7 +6,7 @@ use mathlib.Core.Bool.{_&&_}
 use lib.Dec.{eqb}
 use lib.ListN.{length, getD, take, drop}
 use Rattle.units.specs.Choice.{if_then_else_}
-use Rattle.record.specs.Judging.{passing, within}
+use Rattle.record.specs.Judging.{plainIn}
 use Rattle.cutting.specs.declared.Cut.{Cut}
 
 -- a byte in front of the first line, or a line by itself: the end of the text ends a line "if it has a byte"
@@ -14,22 +14,18 @@ unfoldable pub onto : ℕ → List (List ℕ) → List (List ℕ)
 onto b [] = (b ∷ []) ∷ []
 onto b (l ∷ ls) = (b ∷ l) ∷ ls
 
--- "It ends with LF, CR LF, or the end of the text if it has a byte"
-unfoldable pub linesIn : List ℕ → List (List ℕ)
-linesIn [] = []
-linesIn (b ∷ t) =
-    if eqb b 10 then [] ∷ linesIn t
-    else if eqb b 13 && eqb (getD t 0 0) 10 then linesIn t
-    else onto b (linesIn t)
-
 -- how many bytes the LF or CR LF takes that a text begins with; 0 where it begins with none
 unfoldable pub endLength : List ℕ → ℕ
 endLength [] = 0
 endLength (b ∷ t) = if eqb b 10 then 1 else if eqb b 13 && eqb (getD t 0 0) 10 then 2 else 0
 
--- how many bytes "are 32 to 126" before the first that is not
-abbrev pub plainIn : List ℕ → ℕ
-plainIn l = passing (within 32 126) l
+-- "It ends with LF, CR LF, or the end of the text if it has a byte": an end of one byte ends a line, and the first of two is passed over
+unfoldable pub linesIn : List ℕ → List (List ℕ)
+linesIn [] = []
+linesIn (b ∷ t) =
+    if eqb (endLength (b ∷ t)) 0 then onto b (linesIn t)
+    else if eqb (endLength (b ∷ t)) 1 then [] ∷ linesIn t
+    else linesIn t
 
 -- the first line from place `at` on is the bytes before `end`, and the other lines begin at `next`
 pub record LineAt (t : List ℕ) (at end next : ℕ) : Type 0 where

@@ -3,7 +3,8 @@ use units::Bytes;
 ghost use mathlib.Core.Path.{_≡_};
 ghost use Prim.Native.Nat.{_+_, _≤_, _<_};
 ghost use lib.ListN.{length, drop};
-ghost use Rattle.cutting.specs.Cutting.{endLength, plainIn, CutAt};
+ghost use Rattle.record.specs.Judging.{plainIn};
+ghost use Rattle.cutting.specs.Cutting.{endLength, CutAt};
 
 // Where a line ends, where the next one begins, and how many of its bytes are plain, from 32 to 126, before the first that is not.
 pub struct Cut {

@@ -13,6 +13,7 @@ use lib.Seq.{take-all}
 use Rattle.units.specs.Choice.{if_then_else_}
 use Rattle.units.specs.Answers.{Verdict, passed, refused, onward}
 use Rattle.words.specs.Words.{All}
+use Rattle.words.proofs.Lists.{all-getD}
 use Rattle.field.specs.declared.Number.the-variants.{Bad}
 use Rattle.field.specs.Reading.{columns, readField}
 use Rattle.units.proofs.Choosing.{both-ways}
@@ -68,14 +69,12 @@ blank-field l k h = by (inkAfter (6 * k) l) (ink-behind 6 (6 * k + 1) l (6 * k) 
     by (suc c) p = simp (ne-eqb (suc c) 0 (λ e. omega arith), lt-ltb (6 * k + 6) (suc c) (omega (arith, p (omega arith))))
 
 -- a line with a number field is not blank
-blank-column : (l : Line) (i : ℕ) → Blanks l → getD l i 32 ≡ 32
-blank-column [] i h = refl
-blank-column (b ∷ l) zero h = h .0
-blank-column (b ∷ l) (suc i) h = blank-column l i (h .1)
-
 blank-bad : (l : Line) → Blanks l → readField (columns 6 l 0) ≡ Bad
 unfolding readField columns
-blank-bad l h = rw (blank-column l 0 h, blank-column l 1 h, blank-column l 2 h, blank-column l 3 h, blank-column l 4 h, blank-column l 5 h) refl
+blank-bad l h = rw (column 0, column 1, column 2, column 3, column 4, column 5) refl
+  where
+    column : (i : ℕ) → getD l i 32 ≡ 32
+    column i = all-getD (λ b. b ≡ 32) l i 32 refl h
 
 pub first-line : (num so : ℕ) (l : Line) (w : ℕ) → Spells l 0 w → inState num so [] l ≡ firstLine num so l
 unfolding inState

@@ -1,5 +1,6 @@
 -- Demand 1 holds.
-use mathlib.Core.Path.{_≡_, refl}
+use mathlib.Core.Path.{_≡_, refl, ap}
+use mathlib.Core.Logic.{_⊎_, inl, inr}
 use mathlib.Core.Bool.{Bool, true, false, cond, _&&_}
 use mathlib.Core.List.{List, [], _∷_, _++_}
 use Prim.Native.Nat.{ℕ}
@@ -12,7 +13,8 @@ use Rattle.units.specs.Answers.{answer, answered, Verdict, passed, refused, onw
 use Rattle.units.proofs.Packing.{taken-apart}
 use Rattle.units.proofs.Verdicts.{and-on}
 use Rattle.words.specs.Words.{bytesOf, framed}
-use Rattle.words.specs.Outcomes.{written, leaves}
+use Rattle.words.specs.Outcomes.{Written, written, leaves}
+use Rattle.words.proofs.Writing.{written-either}
 use Rattle.block.specs.Judging.{judged}
 use Rattle.block.specs.Records.{recordsOf}
 use Rattle.lines.specs.Text.{textOf, toLines}
@@ -73,12 +75,11 @@ prefix-answers instrument =
 kept : (out : List ℕ) (v : Verdict (List ℕ)) → (written out v .answer .n ≡ 0 → ⊥) → written out v .out ≡ out
 unfolding written
 kept out (refused r) h = refl
-kept out (passed bytes) h = by (ltb (length out) (length bytes)) h
+kept out (passed bytes) h = by (written-either out bytes) h
   where
-    by : (t : Bool) → let w = if t then leaves (answer 29 (length bytes) 0 0) out else leaves (answer 0 (length bytes) 0 0) (bytes ++ drop (length bytes) out) in
-        (w .answer .n ≡ 0 → ⊥) → w .out ≡ out
-    by true h = refl
-    by false h = absurd (h refl)
+    by : {w : Written} {all : List ℕ} → (w ≡ leaves (answer 29 (length bytes) 0 0) out) ⊎ (w ≡ leaves (answer 0 (length bytes) 0 0) all) → (w .answer .n ≡ 0 → ⊥) → w .out ≡ out
+    by (inl e) h = ap (λ x. x .out) e
+    by (inr e) h = absurd (h (ap (λ x. x .answer .n) e))
 
 pub lines-answers : LinesAnswers
 unfolding toLines

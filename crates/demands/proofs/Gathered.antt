@@ -6,31 +6,27 @@ use native.Mathlib.Omega.{arith}
 use lib.ListN.{length, getD, drop, replicate, length-append, length-drop, length-replicate, List·getD-append}
 use lib.Seq.{take-length, take-at, drop-at, getD-drop}
 use Rattle.words.specs.Words.{word, wordsOf, All, Below}
-use Rattle.words.proofs.Lists.{all-append, all-drop}
+use Rattle.words.proofs.Lists.{all-append, all-drop, all-replicate, all-map}
 use Rattle.record.specs.Judging.{wordsNeeded}
 use Rattle.record.specs.Lines.{lineCount}
 use Rattle.record.specs.Rules.{CardWord, CardsOk, DataOk, KindOk, catalogue, header, dataRecord, RecordOk}
 use Rattle.field.specs.Reading.{columns}
-use Rattle.field.proofs.Written.{all-replicate}
 use Rattle.lines.specs.Lines.{Line, dataPlan, kindShown, shown}
 use Rattle.lines.proofs.Sizes.{is-cards, data-count}
 use Rattle.reading.specs.Reading.{Shape, card, fields, Read}
-use Rattle.text.specs.Spelled.{Readable, LineSpells, LinesSpell, no-lines, a-line, CardsSpelled, RecordSpelled, as-catalogue, as-header, as-data}
-use Rattle.text.proofs.Columns.{columns-printed, card-words, words-below}
+use Rattle.text.specs.Spelled.{Printed, Readable, LineSpells, LinesSpell, no-lines, a-line, CardsSpelled, RecordSpelled, as-catalogue, as-header, as-data}
+use Rattle.columns.proofs.Columns.{columns-all}
+use Rattle.text.proofs.Columns.{card-words, words-below}
 use Rattle.text.proofs.Opened.{wordsToCome, CardsFirst, DataFirst, First, catalogue-first, header-first, data-first, Opens, line-wide, plan-turn}
 
 -- ---- the words of lines after a record's first
 
 -- a card's words
 card-printed : (l : Line) → Readable l → All CardWord (wordsOf (columns 80 l 0))
-card-printed l h = card-words (columns 80 l 0) (columns-printed 80 l 0 (h .bytes))
-
-cards-below : (ws : List ℕ) → All CardWord ws → Below 65536 ws
-cards-below [] h = tt
-cards-below (w ∷ ws) h = (omega (arith, h .0 .high-most), cards-below ws (h .1))
+card-printed l h = card-words (columns 80 l 0) (columns-all Printed (omega arith) 80 l 0 (h .bytes))
 
 line-below : (x : Shape) (l : Line) (ws : List ℕ) → Readable l → LineSpells x l ws → Below 65536 ws
-line-below card l ws r h = rw (h .0) (cards-below (wordsOf (columns 80 l 0)) (card-printed l r))
+line-below card l ws r h = rw (h .0) (all-map CardWord (λ w. w < 65536) (λ w c. omega (arith, c .high-most)) (wordsOf (columns 80 l 0)) (card-printed l r))
 line-below (fields n) l ws r h = words-below l 0 ws (h .1)
 
 -- and of all such lines

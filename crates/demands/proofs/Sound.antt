@@ -1,6 +1,6 @@
 -- An accepted text is one of good records, so what it becomes is an accepted block.
 use mathlib.Core.Path.{_≡_, refl, sym, ap, _∙_}
-use mathlib.Core.Bool.{Bool, true, false}
+use mathlib.Core.Logic.{_⊎_, inl, inr}
 use mathlib.Core.List.{List, [], _∷_, _++_, append-assoc}
 use Prim.Native.Nat.{ℕ, suc, _+_, _^_, _≤_, _<_}
 use native.Mathlib.Omega.{arith}
@@ -12,7 +12,8 @@ use Rattle.units.specs.Choice.{if_then_else_}
 use Rattle.units.specs.Answers.{answer, Verdict, passed, refused, onward}
 use Rattle.units.proofs.Verdicts.{never-passed, else-passed}
 use Rattle.words.specs.Words.{bytesOf, joined, framed, All}
-use Rattle.words.specs.Outcomes.{written, leaves}
+use Rattle.words.specs.Outcomes.{Written, written, leaves}
+use Rattle.words.proofs.Writing.{written-either}
 use Rattle.words.proofs.Lists.{all-append}
 use Rattle.record.specs.Rules.{RecordOk}
 use Rattle.block.specs.Judging.{Accepted}
@@ -26,7 +27,7 @@ use Rattle.text.specs.Spelled.{Readable, Blanks, LinesSpell, no-lines, a-line, 
 use Rattle.text.proofs.Told.{Known}
 use Rattle.text.proofs.Opened.{wordsToCome, Opens, skipped, opens, Given, Taken, line-known}
 use Rattle.text.proofs.Known.{lines-most, room-on, Room, text-known, words-room}
-use Rattle.demands.specs.Demand2.{TextGivesBlock, WrittenAccepted}
+use Rattle.demands.specs.Demand2.{bytesIn, TextGivesBlock, WrittenAccepted}
 use Rattle.demands.specs.Texts.{IsText}
 use Rattle.demands.proofs.Gathered.{done}
 
@@ -162,14 +163,13 @@ written-accepted t out = by (readText t) refl (text-known t)
     block : List ℕ → List ℕ
     block ws = bytesOf (framed ws)
 
-    taken : (ws : List ℕ) → readText t ≡ passed ws → (short : Bool) → let w = if short then leaves (answer 29 (length (block ws)) 0 0) out else leaves (answer 0 (length (block ws)) 0 0) (block ws ++ drop (length (block ws)) out) in
-        w .answer .n ≡ 0 → Accepted (take (w .answer .a) (w .out))
-    taken ws e true z = absurd (omega arith)
-    taken ws e false z =
+    taken : (ws : List ℕ) → readText t ≡ passed ws → {w : Written} → let b = block ws in
+        (w ≡ leaves (answer 29 (length b) 0 0) out) ⊎ (w ≡ leaves (answer 0 (length b) 0 0) (b ++ drop (length b) out)) → w .answer .n ≡ 0 → Accepted (bytesIn w)
+    taken ws e (inl f) z = absurd (omega (arith, ap (λ x. x .answer .n) f))
+    taken ws e (inr f) z =
         let g = text-gives-block t ws e in
-        rw (take-append-seam (block ws) (drop (length (block ws)) out)) (record { count = length (g .0); is = g .2 })
+        rw (f, take-append-seam (block ws) (drop (length (block ws)) out)) (record { count = length (g .0); is = g .2 })
 
-    by : (v : Verdict (List ℕ)) → readText t ≡ v → Known (Room 0) v → let w = written out (onward v (λ ws. passed (block ws))) in
-        w .answer .n ≡ 0 → Accepted (take (w .answer .a) (w .out))
+    by : (v : Verdict (List ℕ)) → readText t ≡ v → Known (Room 0) v → let w = written out (onward v (λ ws. passed (block ws))) in w .answer .n ≡ 0 → Accepted (bytesIn w)
     by (refused r) e h z = absurd (omega (arith, h .listed .0))
-    by (passed ws) e h z = taken ws e (ltb (length out) (length (block ws))) z
+    by (passed ws) e h z = taken ws e (written-either out (block ws)) z

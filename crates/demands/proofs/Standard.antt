@@ -10,7 +10,7 @@ use lib.ListN.{length, getD, take, drop, replicate, drop-of-length-le, length-dr
 use lib.Seq.{drop-nil, drop-cons, drop-append-add, take-at, take-all, take-take, take-length, length-take-le, getD-take, getD-drop}
 use Rattle.units.specs.Answers.{passed}
 use Rattle.words.specs.Words.{word, bytesOf, joined, All, Below}
-use Rattle.words.proofs.Lists.{all-take, all-drop, all-append}
+use Rattle.words.proofs.Lists.{all-take, all-drop, all-append, all-getD, all-map}
 use Rattle.words.proofs.Laws.{length-bytesOf, words-bytes, getD-below}
 use Rattle.record.specs.Lines.{lineCount}
 use Rattle.record.specs.Rules.{CardWord, CardsOk, KindOk, catalogue, header, dataRecord, RecordOk}
@@ -24,7 +24,8 @@ use Rattle.lines.specs.Lines.{Line, fieldsOf, dataPlan, laid, cardLines, kindSh
 use Rattle.lines.specs.Text.{ended, textOf}
 use Rattle.lines.proofs.Turns.{length-fieldsOf, fieldsIn}
 use Rattle.lines.proofs.Sizes.{sized, is-cards, cards-lines, data-lines, fieldsIn-plan, text-most}
-use Rattle.cutting.specs.Cutting.{onto, linesIn}
+use Rattle.cutting.specs.Cutting.{onto, linesIn, endLength}
+use Rattle.columns.proofs.Columns.{columns-full}
 use Rattle.reading.specs.Reading.{card, fields}
 use Rattle.text.specs.Block.{readText}
 use Rattle.text.specs.Spelled.{Printed, Readable, Blanks, Spells, SpellsAll, LineSpells, LinesSpell, no-lines, a-line, CardsSpelled, RecordSpelled, as-catalogue, as-header, as-data, Spelled, at-end, a-record}
@@ -33,19 +34,15 @@ use Rattle.demands.proofs.Texts.{text-read}
 
 -- ---- the bytes of written lines
 
-byte-printed : {b : ℕ} → FieldByte b → Printed b
-byte-printed blank = omega arith
-byte-printed minus = omega arith
-byte-printed (figure n) = omega arith
-
-field-printed : (bs : List ℕ) → All FieldByte bs → All Printed bs
-field-printed [] h = tt
-field-printed (b ∷ bs) h = (byte-printed (h .0), field-printed bs (h .1))
+byte-printed : (b : ℕ) → FieldByte b → Printed b
+byte-printed b blank = omega arith
+byte-printed b minus = omega arith
+byte-printed b (figure n) = omega arith
 
 fields-printed : (ws : List ℕ) → All Printed (fieldsOf ws)
 unfolding fieldsOf
 fields-printed [] = tt
-fields-printed (w ∷ ws) = all-append Printed (fieldOf w) (fieldsOf ws) (field-printed (fieldOf w) (bytes-fieldOf w)) (fields-printed ws)
+fields-printed (w ∷ ws) = all-append Printed (fieldOf w) (fieldsOf ws) (all-map FieldByte Printed byte-printed (fieldOf w) (bytes-fieldOf w)) (fields-printed ws)
 
 card-printed : (ws : List ℕ) → All CardWord ws → All Printed (bytesOf ws)
 unfolding bytesOf
@@ -65,7 +62,7 @@ cards-printed (suc n) ws h = (card-printed (take 40 ws) (all-take CardWord 40 ws
 -- ---- the lines of a text
 
 line-cut : (l t : List ℕ) → All Printed l → linesIn (l ++ 10 ∷ t) ≡ l ∷ linesIn t
-unfolding linesIn onto
+unfolding linesIn onto endLength
 line-cut [] t h = refl
 line-cut (b ∷ l) t h = simp (ne-eqb b 10 (λ e. omega (arith, h .0 .least)), ne-eqb b 13 (λ e. omega (arith, h .0 .least))) (ap (onto b) (line-cut l t (h .1)))
 
@@ -78,11 +75,6 @@ lines-cut (l ∷ ls) t h =
     ∙ ap (λ ms. l ∷ ms) (lines-cut ls t (h .1))
 
 -- ---- the words on a line of fields
-
-columns-are : (n : ℕ) (l : Line) (at : ℕ) → at + n ≤ length l → columns n l at ≡ take n (drop at l)
-unfolding columns
-columns-are zero l at h = refl
-columns-are (suc n) l at h = rw (drop-cons l at 32 (omega arith)) (ap (λ bs. getD l at 32 ∷ bs) (columns-are n l (suc at) (omega arith)))
 
 fields-drop : (k : ℕ) (ws : List ℕ) → drop (6 * k) (fieldsOf ws) ≡ fieldsOf (drop k ws)
 unfolding fieldsOf
@@ -97,7 +89,7 @@ field-at : (ws : List ℕ) (k : ℕ) → k < length ws → columns 6 (fieldsOf w
 unfolding fieldsOf
 field-at ws k h =
     let w = getD ws k 0 in
-    columns-are 6 (fieldsOf ws) (6 * k) (omega (arith, length-fieldsOf ws))
+    columns-full 6 (fieldsOf ws) (6 * k) (omega (arith, length-fieldsOf ws))
     ∙ ap (take 6) (fields-drop k ws ∙ ap fieldsOf (drop-cons ws k 0 h))
     ∙ take-at (fieldOf w) (fieldsOf (drop (suc k) ws)) 6 (length-fieldOf w)
 
@@ -143,22 +135,17 @@ cards-spell zero (w ∷ ws) h = absurd (omega arith)
 cards-spell (suc n) ws h =
     let first = take 40 ws in
     let l : length (bytesOf first) ≡ 80 = omega (arith, length-bytesOf first, length-take-le 40 ws (omega arith)) in
-    let whole : columns 80 (bytesOf first) 0 ≡ bytesOf first = columns-are 80 (bytesOf first) 0 (omega arith) ∙ take-all 80 (bytesOf first) (omega arith) in
+    let whole : columns 80 (bytesOf first) 0 ≡ bytesOf first = columns-full 80 (bytesOf first) 0 (omega arith) ∙ take-all 80 (bytesOf first) (omega arith) in
     let spells : LineSpells card (bytesOf first) first = (rw (whole, words-bytes first) refl, nothing-behind (bytesOf first) 80 (omega arith)) in
     rw (take-append-drop 40 ws) at (a-line {x = card} {l = bytesOf first} first spells (cards-spell n (drop 40 ws) (omega (arith, length-drop 40 ws))))
 
 -- ---- a record
 
 -- a word that must be zero
-zero-of : (l : List ℕ) (i : ℕ) → All (λ w. w ≡ 0) l → getD l i 0 ≡ 0
-zero-of [] i h = refl
-zero-of (w ∷ l) zero h = h .0
-zero-of (w ∷ l) (suc i) h = zero-of l i (h .1)
-
 zero-word : (z : ℕ) (r : List ℕ) → All (λ w. w ≡ 0) (drop z (take 40 r)) → (k : ℕ) → z ≤ k → k < 40 → getD r k 0 ≡ 0
 zero-word z r h k low high =
     let e : z + (k - z) ≡ k = omega arith in
-    sym (getD-take 40 r k 0 high) ∙ ap (λ i. getD (take 40 r) i 0) (sym e) ∙ sym (getD-drop z (take 40 r) (k - z) 0) ∙ zero-of (drop z (take 40 r)) (k - z) h
+    sym (getD-take 40 r k 0 high) ∙ ap (λ i. getD (take 40 r) i 0) (sym e) ∙ sym (getD-drop z (take 40 r) (k - z) 0) ∙ all-getD (λ w. w ≡ 0) (drop z (take 40 r)) (k - z) 0 refl h
 
 -- ---- the words as the lines show them
 

@@ -8,6 +8,7 @@ use lib.ListN.{length, take, drop, replicate, length-append, take-append-drop}
 use lib.Seq.{take-at, drop-at}
 use Rattle.units.specs.Answers.{passed}
 use Rattle.words.specs.Words.{word, joined, All}
+use Rattle.words.proofs.Lists.{all-parts}
 use Rattle.record.specs.Lines.{lineCount}
 use Rattle.record.specs.Rules.{RecordOk}
 use Rattle.block.proofs.Exact.{ok-long}
@@ -98,12 +99,9 @@ spelled-back num so at-end r h fits some = simp (ne-eqb so 0 (λ e. omega arith)
 spelled-back num so (blank-line {l} {ls} b s) r h fits some = skip-back num so l ls (r .0) b ∙ spelled-back (suc num) so s (r .1) h fits some
 spelled-back num so (a-record {r = q} {ms} {ls} {rs} k s) r h fits some =
     let l = length-append q (joined rs) in
-    record-back q num so ms ls (h .0) (omega arith) (parts ms ls r .0) k
-    ∙ ap (ahead q) (spelled-back (num + length ms) (so + length q) s (parts ms ls r .1) (h .1) (omega arith) (omega (arith, ok-long q (h .0))))
-  where
-    parts : (ms ls : List Line) → All Readable (ms ++ ls) → All Readable ms × All Readable ls
-    parts [] ls r = (tt, r)
-    parts (m ∷ ms) ls r = ((r .0, parts ms ls (r .1) .0), parts ms ls (r .1) .1)
+    let p = all-parts Readable ms ls r in
+    record-back q num so ms ls (h .0) (omega arith) (p .0) k
+    ∙ ap (ahead q) (spelled-back (num + length ms) (so + length q) s (p .1) (h .1) (omega arith) (omega (arith, ok-long q (h .0))))
 
 -- every text of good records is accepted, and read as their words
 pub text-read : (t : List ℕ) (rs : List (List ℕ)) → IsText t rs → readText t ≡ passed (joined rs)

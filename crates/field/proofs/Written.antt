@@ -7,7 +7,7 @@ use lib.Dec.{ltb}
 use lib.ListN.{length, replicate, length-append, length-replicate}
 use Rattle.units.specs.Choice.{if_then_else_}
 use Rattle.words.specs.Words.{All}
-use Rattle.words.proofs.Lists.{all-append}
+use Rattle.words.proofs.Lists.{all-append, all-replicate}
 use Rattle.field.specs.Writing.{magnitudeOf, signOf, blanks, fieldOf, FieldByte, blank, minus, figure}
 use Rattle.units.specs.Decimal.{digit, decimal}
 use Rattle.units.proofs.Choosing.{both-ways}
@@ -23,11 +23,6 @@ module _ (w : ℕ) where
   pub length-fieldOf : length (fieldOf w) ≡ 6
   unfolding fieldOf
   length-fieldOf = rw (length-append (blanks (6 - length number)) number, length-replicate) (omega (arith, length-number))
-
-module _ {A : Type 0} (P : A → Type 0) where
-  pub all-replicate : (n : ℕ) (a : A) → P a → All P (replicate n a)
-  all-replicate zero a h = tt
-  all-replicate (suc n) a h = (h, all-replicate n a h)
 
 bytes-decimal : (most n : ℕ) → All FieldByte (decimal most n)
 unfolding decimal

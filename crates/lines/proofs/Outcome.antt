@@ -12,7 +12,7 @@ use Rattle.block.specs.Judging.{judged}
 use Rattle.block.specs.Records.{recordsOf}
 use Rattle.block.proofs.Known.{Known, judged-known}
 use Rattle.words.specs.Words.{Below}
-use Rattle.words.proofs.Writing.{written-answer}
+use Rattle.words.proofs.Writing.{written-told}
 use Rattle.lines.proofs.Sizes.{text-bound}
 use Rattle.lines.specs.Text.{textOf, toLines}
 
@@ -28,10 +28,12 @@ when-accepted b out k e = rw e
 pub outcome-told : (b out : List ℕ) → Below 256 b → ((toLines b out .answer .n ≤ 9) ⊎ (toLines b out .answer .n ≡ 29)) × Packs (toLines b out .answer)
 outcome-told b out h = by (judged b) refl (judged-known b h)
   where
-    size : (r : Answer) (k : ℕ) → (r ≡ answer 0 k 0 0) ⊎ (r ≡ answer 29 k 0 0) → k ≤ 55971 → ((r .n ≤ 9) ⊎ (r .n ≡ 29)) × Packs r
-    size r k (inl e) m = rw e (inl (omega arith), record { n-fits = omega arith; a-fits = omega arith; b-fits = omega arith; c-fits = omega arith })
-    size r k (inr e) m = rw e (inr refl, record { n-fits = omega arith; a-fits = omega arith; b-fits = omega arith; c-fits = omega arith })
+    listed : {n : ℕ} → (n ≡ 0) ⊎ (n ≡ 29) → (n ≤ 9) ⊎ (n ≡ 29)
+    listed (inl e) = inl (omega arith)
+    listed (inr e) = inr e
 
     by : (v : Verdict ℕ) → judged b ≡ v → Known v → ((toLines b out .answer .n ≤ 9) ⊎ (toLines b out .answer .n ≡ 29)) × Packs (toLines b out .answer)
     by (refused r) e t = rw (when-refused b out r e) (inl (t .listed), t .packs)
-    by (passed k) e t = rw (when-accepted b out k e) (size _ (length (textOf (recordsOf b))) (written-answer out (textOf (recordsOf b))) (text-bound b h (record { count = k; is = e })))
+    by (passed k) e t =
+        let w = written-told out (textOf (recordsOf b)) (omega (arith, text-bound b h (record { count = k; is = e }))) in
+        rw (when-accepted b out k e) (listed (w .0), w .1)

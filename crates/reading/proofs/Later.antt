@@ -10,7 +10,7 @@ use Rattle.words.proofs.Laws.{length-wordsOf}
 use Rattle.field.specs.Reading.{columns}
 use Rattle.columns.specs.Columns.{blankAfter}
 use Rattle.reading.specs.Reading.{Shape, card, fields, gives, rowFields, inState}
-use Rattle.columns.proofs.Scan.{length-columns}
+use Rattle.columns.proofs.Columns.{length-columns}
 
 module _ (num so : ℕ) (l : List ℕ) (here rest : List Shape) where
   pub card-is : here ≡ card ∷ rest → inState num so here l ≡ onward (blankAfter num l 80) (λ _. gives (wordsOf (columns 80 l 0)) rest)

@@ -5,7 +5,7 @@ use mathlib.Core.Bool.{not, _||_}
 use lib.Dec.{ltb, eqb}
 use lib.ListN.{length, drop, replicate}
 use Rattle.units.specs.Choice.{if_then_else_}
-use Rattle.units.specs.Units.{wordsOfCards}
+use Rattle.units.specs.Units.{wordsOfCards, columnsOfFields}
 use Rattle.units.specs.Answers.{answer, Verdict, passed, refused, onward}
 use Rattle.words.specs.Words.{word, wordsOf}
 use Rattle.record.specs.Judging.{underLeast, wordsNeeded}
@@ -72,7 +72,7 @@ countFields num l head = onward (numbers num l 12 4) (λ counts. countsIn num (h
 unfoldable pub prologueFields : ℕ → Line → List ℕ → Verdict (List ℕ)
 prologueFields num l r =
     let used = min (word r 13) 20 in
-    onward (numbers num l 16 (used - 16)) (λ more. onward (blankAfter num l (6 * used)) (λ _. passed (r ++ more)))
+    onward (numbers num l 16 (used - 16)) (λ more. onward (blankAfter num l (columnsOfFields used)) (λ _. passed (r ++ more)))
 
 -- "Data: 27, fields 17 on, then blank columns by 26. Data gives 28, then 24"
 unfoldable pub dataLine : ℕ → ℕ → Line → List ℕ → Verdict Read
@@ -93,7 +93,7 @@ firstLine num so l = onward (numbers num l 0 12) (λ head. kindLine num so l hea
 
 -- of a later line, after 25 and 20: "fields by 22, blank columns by 26"
 unfoldable pub rowFields : ℕ → Line → ℕ → Verdict (List ℕ)
-rowFields num l n = onward (numbers num l 0 n) (λ ws. onward (blankAfter num l (6 * n)) (λ _. passed ws))
+rowFields num l n = onward (numbers num l 0 n) (λ ws. onward (blankAfter num l (columnsOfFields n)) (λ _. passed ws))
 
 -- "Each card is one line of 80 columns", and 81 to 120 are blank; "Within a record a blank line is a blank card, or a Data line with bad fields"; "Blank lines may stand before, between and after records"
 unfoldable pub inState : ℕ → ℕ → List Shape → Line → Verdict Read

@@ -11,7 +11,7 @@ ghost use lib.ListN.{length, getD, take, drop, replicate};
 ghost use lib.Seq.{slice};
 ghost use Rattle.units.specs.Answers.{onward};
 ghost use Rattle.words.specs.Words.{wordsOf};
-ghost use Rattle.record.specs.Judging.{passing, within};
+ghost use Rattle.record.specs.Judging.{plainIn};
 ghost use Rattle.lines.specs.Lines.{part, times, plan};
 ghost use Rattle.field.specs.Reading.{columns};
 ghost use Rattle.columns.specs.Cases.{checkedOf};
@@ -454,7 +454,7 @@ pub fn read_line(
     row: &mut [u16],
     block: &mut [u8],
 ) -> Step
-    requires { ⌜ (length (now row) ≡ 20) × (so .0 < 2 ^ 22) × (plain .0 ≡ passing (within 32 126) (now line)) ⌝ }
+    requires { ⌜ (length (now row) ≡ 20) × (so .0 < 2 ^ 22) × (plain .0 ≡ plainIn (now line)) ⌝ }
     ensures { λ r. ⌜ Stepped (so .0) (now (block .entry)) (lineStep (num .0) (so .0) (toCome plan) (now (line .entry))) (now (block .exit)) r ⌝ }
 {
     let column = columns::bad_column(line, plain);

@@ -17,6 +17,10 @@ passing p (w ∷ ws) = if p w then suc (passing p ws) else 0
 abbrev pub within : ℕ → ℕ → ℕ → Bool
 within least most x = leb least x && leb x most
 
+-- how many bytes "are 32 to 126" before the first that is not
+abbrev pub plainIn : List ℕ → ℕ
+plainIn l = passing (within 32 126) l
+
 -- both bytes of a word from least to most
 unfoldable pub wordWithin : ℕ → ℕ → ℕ → Bool
 wordWithin least most w = within least most (w / 256) && within least most (w % 256)

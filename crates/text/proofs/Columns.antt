@@ -56,18 +56,7 @@ clean-from k (b ∷ l) least h e =
 pub clean : (l : Line) → badColumn 1 l ≡ 0 → Readable l
 clean l e = let c = clean-from 1 l (omega arith) (omega arith) e in record { short = omega arith; bytes = c .bytes }
 
--- ---- columns of a clean line
-
-getD-printed : (l : Line) (i : ℕ) → All Printed l → Printed (getD l i 32)
-getD-printed [] i h = omega arith
-getD-printed (b ∷ l) zero h = h .0
-getD-printed (b ∷ l) (suc i) h = getD-printed l i (h .1)
-
--- "Columns that a line lacks are blank"
-pub columns-printed : (n : ℕ) (l : Line) (at : ℕ) → All Printed l → All Printed (columns n l at)
-unfolding columns
-columns-printed zero l at h = tt
-columns-printed (suc n) l at h = (getD-printed l at h, columns-printed n l (suc at) h)
+-- ---- the words of a card
 
 pub card-words : (b : List ℕ) → All Printed b → All CardWord (wordsOf b)
 unfolding wordsOf

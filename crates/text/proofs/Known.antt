@@ -12,15 +12,14 @@ use Rattle.units.specs.declared.Answer.{Answer}
 use Rattle.units.specs.Answers.{answer, Verdict, passed, refused, onward, Packs}
 use Rattle.words.specs.Words.{bytesOf, framed}
 use Rattle.words.specs.Outcomes.{written}
-use Rattle.words.proofs.Laws.{length-bytesOf}
-use Rattle.words.proofs.Writing.{written-answer}
-use Rattle.block.proofs.Exact.{frame-of}
+use Rattle.words.proofs.Sealing.{length-framed}
+use Rattle.words.proofs.Writing.{written-told}
 use Rattle.lines.specs.Lines.{Line}
-use Rattle.cutting.specs.Cutting.{onto, linesIn}
+use Rattle.cutting.specs.Cutting.{onto, linesIn, endLength}
 use Rattle.reading.specs.Reading.{Shape, Read, lineStep, atEnd, readLines}
 use Rattle.text.specs.Block.{readText, toBlock}
 use Rattle.text.proofs.Told.{told, Known, then-known}
-use Rattle.units.proofs.Choosing.{by-test}
+use Rattle.units.proofs.Choosing.{by-test, both-ways}
 use Rattle.text.proofs.Opened.{wordsToCome, skipped, opens, Given, Taken, line-wide, line-known}
 
 -- ---- the lines of a text
@@ -35,8 +34,8 @@ unfolding linesIn
 lines-most [] = omega arith
 lines-most (b ∷ t) =
     let ih = lines-most t in
-    by-test P (eqb b 10) ([] ∷ linesIn t) _ (λ _. omega arith)
-    (λ _. by-test P (eqb b 13 && eqb (getD t 0 0) 10) (linesIn t) (onto b (linesIn t)) (λ _. omega arith) (λ _. omega (arith, onto-most b (linesIn t))))
+    both-ways P (eqb (endLength (b ∷ t)) 0) (onto b (linesIn t)) _ (omega (arith, onto-most b (linesIn t)))
+    (both-ways P (eqb (endLength (b ∷ t)) 1) ([] ∷ linesIn t) (linesIn t) (omega arith) (omega arith))
   where
     P : List Line → Type 0
     P ls = length ls ≤ suc (length t)
@@ -88,18 +87,16 @@ pub record Answered (r : Answer) : Type 0 where
   pub listed : (r .n ≡ 0) ⊎ ((20 ≤ r .n) × (r .n ≤ 30))
   pub packs : Packs r
 
--- the bytes of a block of so many record words
-pub length-block : (ws : List ℕ) → length (bytesOf (framed ws)) ≡ 2 * (length ws + 2)
-length-block ws = omega (arith, length-bytesOf (framed ws), frame-of ws .size)
-
 pub answer-told : (t out : List ℕ) → Answered (toBlock t out .answer)
 unfolding toBlock written
 answer-told t out = by (readText t) (text-known t)
   where
-    size : (r : Answer) (k : ℕ) → (r ≡ answer 0 k 0 0) ⊎ (r ≡ answer 29 k 0 0) → k ≤ 16000 → Answered r
-    size r k (inl e) m = rw e (record { listed = inl refl; packs = omega arith })
-    size r k (inr e) m = rw e (record { listed = inr (omega arith); packs = omega arith })
+    listed : {n : ℕ} → (n ≡ 0) ⊎ (n ≡ 29) → (n ≡ 0) ⊎ ((20 ≤ n) × (n ≤ 30))
+    listed (inl e) = inl e
+    listed (inr e) = inr (omega arith)
 
     by : (v : Verdict (List ℕ)) → Known (Room 0) v → Answered (written out (onward v (λ ws. passed (bytesOf (framed ws)))) .answer)
     by (refused r) h = record { listed = inr (h .listed .0, h .listed .1); packs = h .packs }
-    by (passed ws) h = size _ (length (bytesOf (framed ws))) (written-answer out (bytesOf (framed ws))) (omega (arith, length-block ws, h .most))
+    by (passed ws) h =
+        let w = written-told out (bytesOf (framed ws)) (omega (arith, length-framed ws, h .most)) in
+        record { listed = listed (w .0); packs = w .1 }

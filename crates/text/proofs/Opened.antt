@@ -21,7 +21,7 @@ use Rattle.lines.specs.Lines.{Line, plan, dataPlan}
 use Rattle.lines.proofs.Turns.{fieldsIn, part-turn}
 use Rattle.lines.proofs.Sizes.{fieldsIn-plan}
 use Rattle.columns.specs.Columns.{badColumn, inkFrom, blankAfter, columnOf, numbers, zeros}
-use Rattle.columns.proofs.Scan.{length-columns}
+use Rattle.reading.proofs.Later.{card-size}
 use Rattle.reading.specs.Reading.{Shape, card, fields, Read, gives, cardsLine, countsIn, planLine, headerFields, countFields, prologueFields, catalogueLine, headerLine, dataLine, kindLine, firstLine, rowFields, inState, lineStep}
 use Rattle.text.specs.Spelled.{Readable, Blanks, SpellsAll, SpellsZero, LineSpells}
 use Rattle.text.proofs.Told.{Told, told, Known, then-known, known-as}
@@ -121,7 +121,7 @@ pub record Taken (so : ℕ) (rest : List Shape) (l : Line) (s : Read) : Type 0 w
 
 -- a line after a record's first has so many words
 pub line-wide : (x : Shape) (l : Line) (ws : List ℕ) → LineSpells x l ws → length ws ≡ wide x
-line-wide card l ws h = ap length (h .0) ∙ omega (arith, length-wordsOf (columns 80 l 0), length-columns 80 l 0)
+line-wide card l ws h = ap length (h .0) ∙ card-size l
 line-wide (fields n) l ws h = h .0
 
 -- ---- first lines

@@ -4,6 +4,7 @@ use mathlib.Core.Path.{_≡_}
 use mathlib.Core.Logic.{_⊎_}
 use mathlib.Core.List.{List, [], _∷_, _++_, map}
 use lib.ListN.{length, take, drop, replicate}
+use Rattle.units.specs.Units.{columnsOfFields}
 use Rattle.words.specs.Words.{word, wordsOf, All}
 use Rattle.record.specs.Lines.{lineCount}
 use Rattle.field.specs.declared.Number.the-variants.{Word}
@@ -27,7 +28,7 @@ Blanks l = All (λ b. b ≡ 32) l
 
 -- the field with k fields before it: "blanks, then at most one sign, then digits to its last column"; "Columns that a line lacks are blank"
 abbrev pub Spells : Line → ℕ → ℕ → Type 0
-Spells l k w = readField (columns 6 l (6 * k)) ≡ Word w
+Spells l k w = readField (columns 6 l (columnsOfFields k)) ≡ Word w
 
 -- that field and those after it spell these words
 abbrev pub SpellsAll : Line → ℕ → List ℕ → Type 0
@@ -36,12 +37,12 @@ SpellsAll l k (w ∷ ws) = Spells l k w × SpellsAll l (suc k) ws
 
 -- a field that must be zero: "there blank means 0"
 abbrev pub SpellsZero : Line → ℕ → Type 0
-SpellsZero l k = Blanks (columns 6 l (6 * k)) ⊎ Spells l k 0
+SpellsZero l k = Blanks (columns 6 l (columnsOfFields k)) ⊎ Spells l k 0
 
 -- "Each card is one line of 80 columns", the bytes of its words; a line of number fields has so many; the columns behind are blank
 abbrev pub LineSpells : Shape → Line → List ℕ → Type 0
 LineSpells card l ws = (ws ≡ wordsOf (columns 80 l 0)) × Blanks (drop 80 l)
-LineSpells (fields n) l ws = (length ws ≡ n) × SpellsAll l 0 ws × Blanks (drop (6 * n) l)
+LineSpells (fields n) l ws = (length ws ≡ n) × SpellsAll l 0 ws × Blanks (drop (columnsOfFields n) l)
 
 -- lines of these shapes spell words, each line its own
 pub data LinesSpell : List Shape → List Line → List ℕ → Type 0 where

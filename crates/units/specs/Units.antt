@@ -23,7 +23,7 @@ linesOfFields w = (w + 19) / 20
 
 -- "A number field is six columns"
 abbrev pub columnsOfFields : ℕ → ℕ
-columnsOfFields w = w * 6
+columnsOfFields w = 6 * w
 
 -- "Every line ends with LF"
 abbrev pub endsOfLines : ℕ → ℕ

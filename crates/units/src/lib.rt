@@ -93,7 +93,7 @@ pub fn columns_of_fields(w: Words) -> Bytes
     requires { ⌜ w .0 < 2 ^ 32 ⌝ }
     ensures { λ r. ⌜ r .0 ≡ columnsOfFields (w .0) ⌝ }
 {
-    Bytes(w.0 * 6)
+    Bytes(6 * w.0)
 }
 
 // The line ends of so many lines, a byte each.

@@ -6,6 +6,7 @@ use native.Mathlib.Omega.{arith}
 use lib.ListN.{length, getD, take, drop}
 use lib.Seq.{slice, drop-nil}
 use Rattle.words.specs.Words.{wordsOf, bytesOf, joined, Below}
+use Rattle.words.proofs.Lists.{all-getD}
 
 pub length-wordsOf : (b : List ℕ) → length (wordsOf b) ≡ length b / 2
 unfolding wordsOf
@@ -94,6 +95,4 @@ joined-append [] ss = refl
 joined-append (r ∷ rs) ss = ap (λ t. r ++ t) (joined-append rs ss) ∙ sym (append-assoc r (joined rs) (joined ss))
 
 pub getD-below : (n : ℕ) (l : List ℕ) (i : ℕ) → 0 < n → Below n l → getD l i 0 < n
-getD-below n [] i h b = h
-getD-below n (x ∷ xs) zero h b = b .0
-getD-below n (x ∷ xs) (suc i) h b = getD-below n xs i h (b .1)
+getD-below n l i h b = all-getD (λ x. x < n) l i 0 h b

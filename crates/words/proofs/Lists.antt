@@ -4,7 +4,7 @@ use mathlib.Core.List.{List, [], _∷_, _++_}
 use Prim.Native.Nat.{ℕ, zero, suc, _+_, _-_, _≤_}
 use native.Mathlib.Nat.{suc-add, zero-add}
 use native.Mathlib.Omega.{arith}
-use lib.ListN.{take, drop}
+use lib.ListN.{getD, take, drop, replicate}
 use lib.Seq.{slice, take-nil}
 use Rattle.words.specs.Words.{All}
 
@@ -33,3 +33,23 @@ module _ {A : Type 0} (P : A → Type 0) where
   pub all-append : (xs ys : List A) → All P xs → All P ys → All P (xs ++ ys)
   all-append [] ys h k = k
   all-append (x ∷ xs) ys h k = (h .0, all-append xs ys (h .1) k)
+
+  -- of each part of a list
+  pub all-parts : (xs ys : List A) → All P (xs ++ ys) → All P xs × All P ys
+  all-parts [] ys h = (tt, h)
+  all-parts (x ∷ xs) ys h = let p = all-parts xs ys (h .1) in ((h .0, p .0), p .1)
+
+  -- of one element, or of what stands in for it
+  pub all-getD : (l : List A) (i : ℕ) (d : A) → P d → All P l → P (getD l i d)
+  all-getD [] i d o h = o
+  all-getD (x ∷ xs) zero d o h = h .0
+  all-getD (x ∷ xs) (suc i) d o h = all-getD xs i d o (h .1)
+
+  pub all-replicate : (n : ℕ) (a : A) → P a → All P (replicate n a)
+  all-replicate zero a h = tt
+  all-replicate (suc n) a h = (h, all-replicate n a h)
+
+-- what follows for each
+pub all-map : {A : Type 0} (P Q : A → Type 0) → ((x : A) → P x → Q x) → (l : List A) → All P l → All Q l
+all-map P Q f [] h = tt
+all-map P Q f (x ∷ xs) h = (f x (h .0), all-map P Q f xs (h .1))

@@ -3,7 +3,7 @@ use mathlib.Core.Path.{_≡_, refl, sym, ap, ap₂, _∙_}
 use mathlib.Core.Bool.{Bool, true, false}
 use mathlib.Core.Logic.{_⊎_, inl, inr}
 use mathlib.Core.List.{List, [], _∷_, _++_}
-use Prim.Native.Nat.{ℕ, suc, _+_, _≤_, _<_}
+use Prim.Native.Nat.{ℕ, suc, _+_, _^_, _≤_, _<_}
 use native.Mathlib.Nat.{add-zero, suc-add, add-suc}
 use native.Mathlib.Omega.{arith}
 use borrow.Author.Tests.{lt-ltb, le-ltb}
@@ -11,8 +11,8 @@ use lib.Dec.{ltb}
 use Rattle.units.specs.Choice.{if_then_else_}
 use lib.ListN.{length, drop, set, length-append}
 use lib.Seq.{sets, length-sets, sets-eq}
-use Rattle.units.specs.Answers.{answer, passed}
-use Rattle.words.specs.Outcomes.{written, leaves}
+use Rattle.units.specs.Answers.{answer, passed, Packs}
+use Rattle.words.specs.Outcomes.{Written, written, leaves}
 use Rattle.words.specs.Writing.{Room, Put}
 
 -- a run of stores in two parts
@@ -66,12 +66,24 @@ all-written out bytes h p =
     simp (le-ltb (length out) (length bytes) h)
     (ap₂ (λ (k : ℕ) (l : List ℕ). leaves (answer 0 k 0 0) l) (p .ends ∙ e) (p .bytes ∙ sets-eq bytes out 0 (omega arith) ∙ ap (λ n. bytes ++ drop n out) e))
 
--- a conversion's answer says the bytes written or needed
-pub written-answer : (out bytes : List ℕ) → (written out (passed bytes) .answer ≡ answer 0 (length bytes) 0 0) ⊎ (written out (passed bytes) .answer ≡ answer 29 (length bytes) 0 0)
+-- of some bytes there are two outcomes: too short an output, or all of it written
+pub written-either : (out bytes : List ℕ) → let k = length bytes in
+    (written out (passed bytes) ≡ leaves (answer 29 k 0 0) out) ⊎ (written out (passed bytes) ≡ leaves (answer 0 k 0 0) (bytes ++ drop k out))
 unfolding written
-written-answer out bytes = by (ltb (length out) (length bytes))
+written-either out bytes = by (ltb (length out) (length bytes))
   where
-    by : (t : Bool) → let w = if t then leaves (answer 29 (length bytes) 0 0) out else leaves (answer 0 (length bytes) 0 0) (bytes ++ drop (length bytes) out) in
-        (w .answer ≡ answer 0 (length bytes) 0 0) ⊎ (w .answer ≡ answer 29 (length bytes) 0 0)
-    by true = inr refl
-    by false = inl refl
+    by : (t : Bool) → let short = leaves (answer 29 (length bytes) 0 0) out in let all = leaves (answer 0 (length bytes) 0 0) (bytes ++ drop (length bytes) out) in
+        ((if t then short else all) ≡ short) ⊎ ((if t then short else all) ≡ all)
+    by true = inl refl
+    by false = inr refl
+
+-- the answer then is success or row 29, and has room in the packing
+pub written-told : (out bytes : List ℕ) → length bytes < 2 ^ 24 → let r = written out (passed bytes) .answer in ((r .n ≡ 0) ⊎ (r .n ≡ 29)) × Packs r
+written-told out bytes h = by (written-either out bytes)
+  where
+    sized : (n : ℕ) → n ≤ 29 → Packs (answer n (length bytes) 0 0)
+    sized n m = record { n-fits = omega arith; a-fits = h; b-fits = omega arith; c-fits = omega arith }
+
+    by : {w : Written} {o : List ℕ} → (w ≡ leaves (answer 29 (length bytes) 0 0) out) ⊎ (w ≡ leaves (answer 0 (length bytes) 0 0) o) → ((w .answer .n ≡ 0) ⊎ (w .answer .n ≡ 29)) × Packs (w .answer)
+    by (inl e) = rw e (inr refl, sized 29 (omega arith))
+    by (inr e) = rw e (inl refl, sized 0 (omega arith))

@@ -6,9 +6,8 @@ use native.Mathlib.Omega.{arith}
 use borrow.Author.Needs.{needs}
 use borrow.Author.Tests.{le-leb, lt-leb}
 use lib.ListN.{length, getD, drop}
-use Rattle.record.specs.Judging.{within}
+use Rattle.record.specs.Judging.{within, plainIn}
 use Rattle.record.proofs.Scan.{scan-on, scan-stop, scan-end}
-use Rattle.cutting.specs.Cutting.{plainIn}
 use Rattle.cutting.proofs.plain_bytes.Statement.{statement}
 use Rattle.cutting.proofs.plain_bytes.Tie as tie
 
