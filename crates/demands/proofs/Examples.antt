@@ -1,7 +1,7 @@
 -- The rows of the paper's examples are computed.
 use mathlib.Core.Path.{refl}
 use lib.Count.{ones, onesIn}
-use Rattle.words.specs.Words.{wordsOf, bytesOf, xorAll}
+use Rattle.words.specs.Words.{wordsOf, bytesOf, xorAll, joined, framed}
 use Rattle.record.specs.Judging.{passing, wordWithin, wrongTotal, underLeast, firstNotZero, firstNotCard, judgeCards, judgeCounts, judgeData, judgeRecord}
 use Rattle.block.specs.Judging.{wrongSize, walk, judged}
 use Rattle.record.specs.Lines.{lineCount}
@@ -16,11 +16,19 @@ use Rattle.words.specs.Outcomes.{written}
 use Rattle.lines.specs.Text.{ended, textOf, toLines}
 use Rattle.prefix.specs.LookUp.{beside}
 use Rattle.prefix.specs.Table.{table}
-use Rattle.demands.specs.Examples.{blockRows, blockK, blockLeast, BlockRows, fieldRows, FieldRows, prefixRows, PrefixRows, PaperRows}
+use Rattle.record.specs.Values.{isValue}
+use Rattle.sheet.specs.Sheets.{sheetOf, sheetWith, entriesOf, entries, opened, broken, zeros}
+use Rattle.amending.specs.Places.{noRecord, withValue, stands}
+use Rattle.amending.specs.Amending.{amendable, undoable, onBoth}
+use Rattle.demands.specs.Examples.{blockRows, blockK, blockLeast, BlockRows, amendRows, AmendRows, fieldRows, FieldRows, prefixRows, PrefixRows, PaperRows}
 
 block-rows : BlockRows
 unfolding blockRows blockK blockLeast judged wrongSize walk judgeRecord judgeCards judgeData judgeCounts wrongTotal underLeast firstNotZero firstNotCard passing wordWithin wordsOf bytesOf xorAll ones onesIn recordsOf cut toLines written textOf ended linesOf laid plan part times fieldsOf fieldOf decimal lineCount
 block-rows = refl
+
+amend-rows : AmendRows
+unfolding amendRows blockK judged wrongSize walk judgeRecord judgeData judgeCounts underLeast wordsOf bytesOf xorAll recordsOf cut linesOf laid plan part times fieldsOf fieldOf decimal lineCount bytesFrom framed joined passing sheetOf sheetWith entriesOf entries opened broken zeros isValue noRecord withValue stands amendable undoable onBoth
+amend-rows = refl
 
 field-rows : FieldRows
 unfolding fieldRows number readField columns bytesFrom
@@ -31,4 +39,4 @@ unfolding prefixRows table beside
 prefix-rows = refl
 
 pub paper-rows : PaperRows
-paper-rows = (block-rows, field-rows, prefix-rows)
+paper-rows = (block-rows, amend-rows, field-rows, prefix-rows)

@@ -1,5 +1,6 @@
 pub mod Demand1
 pub mod Demand2
+pub mod Demand3
 pub mod Records
 pub mod Lines
 pub mod ExclusiveOr
@@ -11,3 +12,7 @@ pub mod Gathered
 pub mod Sound
 pub mod Texts
 pub mod Standard
+pub mod Values
+pub mod Stack
+pub mod Model
+pub mod AmendedText

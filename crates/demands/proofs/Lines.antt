@@ -10,10 +10,9 @@ use lib.Dec.{ltb, eqb}
 use lib.ListN.{length, getD, take, drop, set, replicate, length-append, length-take, length-drop, length-set}
 use lib.Seq.{sets, sets-eq, drop-length, set-append-left, set-getD, getD-set-other, take-set-le, take-set-lt, drop-set-lt, drop-set-add, length-take-le}
 use Rattle.units.specs.Choice.{if_then_else_}
-use Rattle.words.specs.Words.{word, bytesOf, All}
+use Rattle.words.specs.Words.{word, All}
 use Rattle.words.proofs.Lists.{all-append}
 use Rattle.words.proofs.Laws.{length-bytesOf}
-use Rattle.words.proofs.Writing.{sets-append}
 use Rattle.record.specs.Lines.{lineCount}
 use Rattle.record.specs.Rules.{KindOk, catalogue, header, dataRecord, RecordOk}
 use Rattle.field.specs.Writing.{fieldOf}
@@ -247,6 +246,20 @@ six-columns before after r h kind j v low high =
     ∙ ap (λ t. textOf before ++ t) (sym (sets-left (fieldOf v) (ended (linesOf r)) (textOf after) (columnsBefore r j) (column-room r h kind j v low high)))
     ∙ sym (sets-right (fieldOf v) (textOf before) (ended (linesOf r) ++ textOf after) (columnsBefore r j))
     ∙ ap (λ t. sets t (length (textOf before) + columnsBefore r j) (fieldOf v)) (sym (text-append before (r ∷ after)))
+
+-- those six columns lie in the text
+pub columns-inside : (before after : List (List ℕ)) (r : List ℕ) → RecordOk r → word r 2 ≡ 1002 → (j : ℕ) → 16 ≤ j → j < length r
+    → length (textOf before) + columnsBefore r j + 6 ≤ length (textOf (before ++ r ∷ after))
+unfolding textOf
+columns-inside before after r h kind j low high =
+    omega (
+      arith,
+      ap length (text-append before (r ∷ after)),
+      length-append (textOf before) (textOf (r ∷ after)),
+      length-append (ended (linesOf r)) (textOf after),
+      column-room r h kind j 0 low high,
+      length-fieldOf 0,
+    )
 
 pub word-stands : WordStands
 word-stands before after r h kind j low high =

@@ -1,25 +1,31 @@
--- Document 01, "Examples": the rows marked P as one table of three sorts: blocks and their lines, number fields, prefixes.
-use Prim.Native.Nat.{ℕ}
+-- Document 01, "Examples": the rows marked P as one table of four sorts: blocks and their lines, amendments, number fields, prefixes.
+use Prim.Native.Nat.{ℕ, _-_}
 use Prim.Native.String.{String}
 use mathlib.Core.Path.{_≡_}
 use mathlib.Core.List.{List, [], _∷_, _++_, map}
+use lib.ListN.{length, getD, replicate}
+use lib.Seq.{slice}
 use Rattle.units.specs.declared.Answer.{Answer}
 use Rattle.units.specs.Answers.{answer, Verdict, passed, refused}
 use Rattle.words.specs.Words.{bytesOf}
 use Rattle.record.specs.Lines.{lineCount}
 use Rattle.block.specs.Judging.{judged}
 use Rattle.block.specs.Records.{recordsOf}
+use Rattle.lines.specs.Lines.{linesOf}
 use Rattle.lines.specs.Text.{toLines}
 use Rattle.columns.specs.Columns.{number}
 use Rattle.report.specs.Text.{text}
 use Rattle.prefix.specs.Table.{letters, prefixOf}
+use Rattle.sheet.specs.Sheets.{version1, sheetOf}
+use Rattle.amending.specs.Places.{recordIn}
 use Rattle.cedar.specs.Calls.{judgeAnswer}
+use Rattle.demands.specs.Demand3.{Call, amends, undoes, doneAll, leftBy, fresh}
 
--- "Block K", with NROW and the checksum left open; -32767 is the word 32769
-unfoldable pub blockK : ℕ → ℕ → List ℕ
-blockK nrow checksum =
+-- "Block K", with NROW, word 22 of its record and the checksum left open; -32767 is the word 32769
+unfoldable pub blockK : ℕ → ℕ → ℕ → List ℕ
+blockK nrow value checksum =
     26 ∷ 24 ∷ 1002 ∷ 30 ∷ 1 ∷ 1983 ∷ 508 ∷ 1422 ∷ 0 ∷ 1983 ∷ 508 ∷ 1422 ∷ 0 ∷ 16 ∷ 1 ∷ 2 ∷ nrow
-    ∷ 540 ∷ 285 ∷ 110 ∷ 550 ∷ 250 ∷ 900 ∷ 300 ∷ 32769 ∷ checksum ∷ []
+    ∷ 540 ∷ 285 ∷ 110 ∷ 550 ∷ 250 ∷ value ∷ 300 ∷ 32769 ∷ checksum ∷ []
 
 -- example 6: "the record of 16 words ... in a block of 18 has checksum 999"
 unfoldable pub blockLeast : ℕ → List ℕ
@@ -49,15 +55,69 @@ pub record Row : Type 0 where
 unfoldable pub blockRows : List Row
 unfolding blockK blockLeast
 blockRows =
-    record { block = blockK 2 33020; found = record { judged-as = answer 0 1 0 0; lined-as = answer 29 150 0 0; lines = 6 ∷ [] } }
-    ∷ record { block = blockK 2 33021; found = record { judged-as = answer 3 0 0 1; lined-as = answer 3 0 0 1; lines = [] } }
+    record { block = blockK 2 900 33020; found = record { judged-as = answer 0 1 0 0; lined-as = answer 29 150 0 0; lines = 6 ∷ [] } }
+    ∷ record { block = blockK 2 900 33021; found = record { judged-as = answer 3 0 0 1; lined-as = answer 3 0 0 1; lines = [] } }
     ∷ record { block = blockLeast 999; found = record { judged-as = answer 0 1 0 0; lined-as = answer 29 97 0 0; lines = 1 ∷ [] } }
-    ∷ record { block = blockK 1 33023; found = record { judged-as = answer 9 1 1 0; lined-as = answer 9 1 1 0; lines = [] } }
+    ∷ record { block = blockK 1 900 33023; found = record { judged-as = answer 9 1 1 0; lined-as = answer 9 1 1 0; lines = [] } }
     ∷ []
 
 -- the rows are what is found
 abbrev pub BlockRows : Type 0
 BlockRows = map (λ r. foundOf (bytesOf (r .block))) blockRows ≡ map (λ r. r .found) blockRows
+
+-- the bytes of K, and of a sheet of so many entries with these bytes: "Entries past the count are zero"
+abbrev pub bytesK : List ℕ
+bytesK = bytesOf (blockK 2 900 33020)
+
+abbrev pub sheetShown : ℕ → List ℕ → List ℕ
+sheetShown count bytes = text "AMD" ++ (0 ∷ 1 ∷ 0 ∷ count ∷ 0 ∷ bytes) ++ replicate (512 - length bytes) 0
+
+-- what calls leave of K and an empty sheet: the answer to each, both buffers, and "line 5 columns 7 to 12" of the block's text
+pub record Left : Type 0 where
+  pub answers : List Answer
+  pub block : List ℕ
+  pub sheet : List ℕ
+  pub columns : List ℕ
+
+abbrev pub leftOf : List Call → Left
+leftOf cs =
+    let q = leftBy version1 (fresh version1 bytesK) cs in
+    record {
+      answers = map (λ d. d .answer) (doneAll version1 bytesK (sheetOf version1 []) cs);
+      block = q .block;
+      sheet = q .sheet;
+      columns = slice 6 12 (getD (linesOf (recordIn (recordsOf (q .block)) 1)) 4 []);
+    }
+
+-- K and the empty sheet as they were
+abbrev pub asBefore : List Answer → Left
+asBefore answers = record { answers = answers; block = bytesK; sheet = sheetShown 0 []; columns = text "   900" }
+
+-- "K's record 1 word 22, 900 to 905"; -32527 is the word 33009
+abbrev pub example3 : Call
+example3 = amends (1 ∷ 22 ∷ 900 ∷ 905 ∷ [])
+
+abbrev pub amendedK : Left
+amendedK =
+    record {
+      answers = answer 0 1 0 0 ∷ [];
+      block = bytesOf (blockK 2 905 33009);
+      sheet = sheetShown 1 (0x00 ∷ 0x01 ∷ 0x00 ∷ 0x16 ∷ 0x03 ∷ 0x84 ∷ 0x03 ∷ 0x89 ∷ []);
+      columns = text "   905";
+    }
+
+-- examples 3, 4 and 5
+unfoldable pub amendRows : List (List Call × Left)
+amendRows =
+    (example3 ∷ [], amendedK)
+    ∷ (example3 ∷ undoes ∷ [], asBefore (answer 0 1 0 0 ∷ answer 0 0 0 0 ∷ []))
+    ∷ (amends (1 ∷ 20 ∷ 550 ∷ 905 ∷ []) ∷ [], asBefore (answer 42 0 0 0 ∷ []))
+    ∷ (amends (1 ∷ 22 ∷ 901 ∷ 905 ∷ []) ∷ [], asBefore (answer 43 900 0 0 ∷ []))
+    ∷ []
+
+-- the rows are what the calls leave
+abbrev pub AmendRows : Type 0
+AmendRows = map (λ r. leftOf (r .0)) amendRows ≡ map (λ r. r .1) amendRows
 
 -- what a field is read as, where it is the second field of line 4
 abbrev pub fieldFound : String → Verdict ℕ
@@ -88,4 +148,4 @@ PrefixRows = map (λ e. prefixOf (e .0)) prefixRows ≡ map (λ e. letters (e .1
 
 -- "The P rows are proved as a single table"
 abbrev pub PaperRows : Type 0
-PaperRows = BlockRows × FieldRows × PrefixRows
+PaperRows = BlockRows × AmendRows × FieldRows × PrefixRows

@@ -6,3 +6,4 @@ pub mod Lines
 pub mod ExclusiveOr
 pub mod Examples
 pub mod Agree
+pub mod Demand3

@@ -1,3 +1,4 @@
 pub mod Scan
 pub mod Passed
 pub mod Exact
+pub mod Values

@@ -10,6 +10,7 @@ ghost use Rattle.words.specs.Words.{wordsOf};
 ghost use Rattle.record.specs.Judging.{passing, within, wordWithin, wrongTotal, underLeast, wordsNeeded, judgeCards, judgeCounts, judgeData, judgeRecord};
 ghost use Rattle.record.specs.Cases.{faultOf, checkedOf};
 ghost use Rattle.record.specs.Lines.{linesNeeded, lineCount};
+ghost use Rattle.record.specs.Values.{amongValues, isValue};
 
 pub const CATALOGUE: u16 = 2001;
 
@@ -47,7 +48,7 @@ fn byte_within(x: u16, least: u16, most: u16) -> bool
 }
 
 // The words before the first of `part` that has a byte outside of `least` to `most`.
-fn first_outside(part: &[u8], least: u16, most: u16) -> Words
+pub fn first_outside(part: &[u8], least: u16, most: u16) -> Words
     ensures { λ r. ⌜ r .0 ≡ passing (wordWithin least most) (wordsOf (now (part .entry))) ⌝ }
 {
     let end = words::count(part).0;
@@ -206,6 +207,40 @@ pub fn line_count(whole: &[u8]) -> Lines
     let mpar = words::word_at(whole, Words(14));
     let nrow = words::word_at(whole, Words(15));
     lines_needed(lprol, jpar, mpar, nrow)
+}
+
+// A place lies from `least` to `most`.
+fn place_within(place: usize, least: usize, most: usize) -> bool
+    ensures { λ r. ⌜ r ≡ within least most place ⌝ }
+{
+    least <= place && place <= most
+}
+
+// Word `place` of a Data record with these counts is a 1-D or a 2-D value.
+fn among_values(place: Words, lprol: u16, jpar: u16, mpar: u16, nrow: u16) -> bool
+    ensures { λ r. ⌜ r ≡ amongValues lprol jpar mpar nrow (place .0) ⌝ }
+{
+    let w = place.0;
+    let codes = lprol as usize + jpar as usize;
+    let values = codes + jpar as usize;
+    let row_codes = values + mpar as usize;
+    let last = words_needed(lprol, jpar, mpar, nrow).0;
+    place_within(w, codes + 1, values) || place_within(w, row_codes + 1, last)
+}
+
+// Word `place` of a good record may be amended.
+pub fn is_value(whole: &[u8], place: Words) -> bool
+    requires { ⌜ 16 ≤ length (wordsOf (now whole)) ⌝ }
+    ensures { λ r. ⌜ r ≡ isValue (wordsOf (now (whole .entry))) (place .0) ⌝ }
+{
+    if words::word_at(whole, Words(1)) != DATA {
+        return false;
+    }
+    let lprol = words::word_at(whole, Words(12));
+    let jpar = words::word_at(whole, Words(13));
+    let mpar = words::word_at(whole, Words(14));
+    let nrow = words::word_at(whole, Words(15));
+    among_values(place, lprol, jpar, mpar, nrow)
 }
 
 // The four numbers of a fault.

@@ -3,3 +3,5 @@ pub mod Laws
 pub mod Xor
 pub mod Writing
 pub mod Sealing
+pub mod Stores
+pub mod Joined

@@ -51,7 +51,7 @@ drop-sets k i l [] h = refl
 drop-sets k i l (v ∷ vs) h = drop-sets k (suc i) (set l i v) vs (omega arith) ∙ drop-set-lt k l i v (omega arith)
 
 -- and what was stored stands there
-slice-sets : (l vs : List ℕ) (i t : ℕ) → i + length vs ≡ t → t ≤ length l → slice i t (sets l i vs) ≡ vs
+pub slice-sets : (l vs : List ℕ) (i t : ℕ) → i + length vs ≡ t → t ≤ length l → slice i t (sets l i vs) ≡ vs
 slice-sets l vs i t e h =
     let s : length (take i l) ≡ i = length-take-le i l (omega arith) in
     ap (slice i t) (sets-eq vs l i (omega arith))

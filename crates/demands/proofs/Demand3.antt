@@ -1,0 +1,187 @@
+-- Demand 3 holds.
+use mathlib.Core.Path.{_≡_, refl, sym, ap, subst, _∙_}
+use mathlib.Core.List.{List, [], _∷_, _++_, map}
+use Prim.Native.Nat.{ℕ, suc}
+use native.Mathlib.Omega.{arith}
+use lib.ListN.{length, replicate, length-append}
+use Rattle.units.specs.Answers.{answer, Verdict, passed, refused}
+use Rattle.words.specs.Words.{All, Below}
+use Rattle.words.specs.Outcomes.{written}
+use Rattle.words.proofs.Lists.{all-replicate}
+use Rattle.block.specs.Judging.{judged}
+use Rattle.block.specs.Records.{recordsOf}
+use Rattle.block.specs.Rules.{blockOf, IsBlock}
+use Rattle.block.proofs.Exact.{only-good, every-good, its-records}
+use Rattle.lines.specs.Text.{textOf}
+use Rattle.lines.proofs.Outcome.{when-accepted}
+use Rattle.sheet.specs.Sheets.{Layout, Entry, sheetOf}
+use Rattle.sheet.specs.Rules.{IsEntry}
+use Rattle.sheet.proofs.Sheets.{opened-sheet}
+use Rattle.amending.specs.Amending.{Standing, standing, amendable, undoable, leaving, onBoth}
+use Rattle.demands.specs.Demand3.{Call, amends, undoes, prints, ofBoth, done, doneAll, Buffers, leftBy, fresh, Takes, putIn, stacked, modelled, modelledAll, stackAfter, Accepts, ModelRule, shown, StandingPutIn, LinesDiffer, UndoneGivesBack}
+use Rattle.demands.proofs.Values.{alike-count}
+use Rattle.demands.proofs.Stack.{putIn-append, putIn-alike, putIn-block}
+use Rattle.demands.proofs.AmendedText.{text-size, stack-outside, stack-shows}
+use Rattle.demands.proofs.Model.{Reached, none-reached, amend-either, amend-accepted, reached-on, reached-before, undo-last, undo-none, from-end}
+
+-- ---- one call
+
+-- both buffers while these amendments stand
+abbrev holding : Layout → List (List ℕ) → List Entry → Buffers
+holding y rs es = record { block = blockOf (putIn rs es); sheet = sheetOf y es }
+
+-- what passes is a stack that can be reached, and the records that it leaves of the first ones
+abbrev Tracks : Layout → List (List ℕ) → Verdict Standing → Type 0
+Tracks y rs (passed t) = (t .records ≡ putIn rs (t .entries)) × Reached y rs (t .entries)
+Tracks y rs (refused r) = Unit {0}
+
+-- over the records of an accepted block
+module _ (y : Layout) (rs : List (List ℕ)) (good : IsBlock (blockOf rs) rs) where
+  module _ (es : List Entry) (h : Reached y rs es) where
+    abbrev ps : List (List ℕ)
+    ps = putIn rs es
+
+    still-block : IsBlock (blockOf ps) ps
+    still-block = putIn-block rs es good (h .stack)
+
+    still-judged : judged (blockOf ps) ≡ passed (length rs)
+    still-judged = every-good (blockOf ps) ps still-block ∙ ap (λ k. passed k) (alike-count rs ps (putIn-alike rs es (good .each) (h .stack)))
+
+    on-both : (does : Standing → Verdict Standing) → onBoth y does (blockOf ps) (sheetOf y es) ≡ leaving y (blockOf ps) (sheetOf y es) (does (standing ps es))
+    unfolding onBoth
+    on-both does =
+        let o = opened-sheet y (sheetOf y es) es (record { bytes = refl; each = h .each; most = h .most }) in
+        rw (still-judged, o .0, o .1, its-records (blockOf ps) ps still-block)
+
+    both-shown : (v : Verdict Standing) → Tracks y rs v → (ofBoth (leaving y (blockOf ps) (sheetOf y es) v) ≡ shown y rs (stacked es v)) × Reached y rs (stacked es v .stack)
+    both-shown (refused r) s = (refl, h)
+    both-shown (passed t) s = (rw (s .0) refl, s .1)
+
+    amend-tracks : (e : Entry) → IsEntry y e → Tracks y rs (amendable y e (standing ps es))
+    amend-tracks e is =
+        amend-either y rs es (good .each) h e (Tracks y rs) (λ n a _. tt)
+        (λ a. (sym (putIn-append rs es (e ∷ [])), reached-on y rs es (good .each) h e is a))
+
+  undo-tracks : (es : List Entry) → Reached y rs es → Tracks y rs (undoable (standing (putIn rs es) es))
+  undo-tracks =
+      from-end (λ es. Reached y rs es → Tracks y rs (undoable (standing (putIn rs es) es))) (λ h. rw (undo-none rs) tt)
+      (λ before e _ h. rw (undo-last before e y rs (good .each) h) (refl, reached-before before e y rs (good .each) h))
+
+  -- a call leaves what the model leaves, and that can be reached
+  step : (es : List Entry) → Reached y rs es → (c : Call) → Takes y c
+      → (done y (blockOf (putIn rs es)) (sheetOf y es) c ≡ shown y rs (modelled y rs es c)) × Reached y rs (modelled y rs es c .stack)
+  step es h (amends e) is =
+      let p = both-shown es h (amendable y e (standing (putIn rs es) es)) (amend-tracks es h e is) in (ap ofBoth (on-both es h (amendable y e)) ∙ p .0, p .1)
+  step es h undoes is = let p = both-shown es h (undoable (standing (putIn rs es) es)) (undo-tracks es h) in (ap ofBoth (on-both es h undoable) ∙ p .0, p .1)
+  step es h (prints text) is =
+      let b = blockOf (putIn rs es) in (
+        ap (λ w. record { answer = w .answer; block = b; sheet = sheetOf y es; out = w .out })
+            (when-accepted b text (length rs) (still-judged es h) ∙ ap (λ qs. written text (passed (textOf qs))) (its-records b (putIn rs es) (still-block es h))),
+        h,
+      )
+
+  -- ---- all calls
+
+  -- every call leaves what the model leaves, and an accepted block
+  all-shown : (es : List Entry) → Reached y rs es → (cs : List Call) → All (Takes y) cs
+      → (doneAll y (blockOf (putIn rs es)) (sheetOf y es) cs ≡ map (shown y rs) (modelledAll y rs es cs))
+      × All (λ d. judged (d .block) ≡ passed (length rs)) (doneAll y (blockOf (putIn rs es)) (sheetOf y es) cs)
+  all-shown es h [] a = (refl, tt)
+  all-shown es h (c ∷ cs) a =
+      let s = step es h c (a .0) in
+      let m = modelled y rs es c in
+      let rest = all-shown (m .stack) (s .1) cs (a .1) in
+      rw (s .0) (ap (λ l. shown y rs m ∷ l) (rest .0), (still-judged (m .stack) (s .1), rest .1))
+
+  -- what all calls leave
+  left-shown : (es : List Entry) → Reached y rs es → (cs : List Call) → All (Takes y) cs
+      → (leftBy y (holding y rs es) cs ≡ holding y rs (stackAfter y rs es cs)) × Reached y rs (stackAfter y rs es cs)
+  left-shown es h [] a = (refl, h)
+  left-shown es h (c ∷ cs) a = let s = step es h c (a .0) in rw (s .0) (left-shown (modelled y rs es c .stack) (s .1) cs (a .1))
+
+  -- ---- undone
+
+  -- the model's undo takes the last one
+  model-last : (before : List Entry) (e : Entry) → Reached y rs (before ++ e ∷ [])
+      → modelled y rs (before ++ e ∷ []) undoes ≡ record { answer = answer 0 (length before) 0 0; stack = before; out = [] }
+  model-last before e h = ap (stacked (before ++ e ∷ [])) (undo-last before e y rs (good .each) h)
+
+  -- calls that take all amendments from the stack, none of them refused
+  abbrev Undone : List Entry → List Call → Type 0
+  Undone es cs = (stackAfter y rs es cs ≡ []) × All (λ m. m .answer .n ≡ 0) (modelledAll y rs es cs)
+
+  undone-on : (before : List Entry) (e : Entry) (cs : List Call) → Reached y rs (before ++ e ∷ []) → Undone before cs → Undone (before ++ e ∷ []) (undoes ∷ cs)
+  undone-on before e cs h rest =
+      subst (λ m. (stackAfter y rs (m .stack) cs ≡ []) × ((m .answer .n ≡ 0) × All (λ o. o .answer .n ≡ 0) (modelledAll y rs (m .stack) cs)))
+      (sym (model-last before e h)) (rest .0, (refl, rest .1))
+
+  all-undone : (es : List Entry) → Reached y rs es → Undone es (replicate (length es) undoes)
+  all-undone =
+      from-end (λ es. Reached y rs es → Undone es (replicate (length es) undoes)) (λ h. (refl, tt))
+      (λ before e ih h.
+      let n : length (before ++ e ∷ []) ≡ suc (length before) = omega (arith, length-append before (e ∷ [])) in
+      rw n (undone-on before e (replicate (length before) undoes) h (ih (reached-before before e y rs (good .each) h))))
+
+-- what holds of each image
+all-mapped : {A B : Type 0} (P : B → Type 0) (f : A → B) (l : List A) → All (λ x. P (f x)) l → All P (map f l)
+all-mapped P f [] h = tt
+all-mapped P f (x ∷ xs) h = (h .0, all-mapped P f xs (h .1))
+
+-- ---- from an accepted block and an empty sheet
+
+module _ (b : List ℕ) (k : ℕ) (bytes : Below 256 b) (accepted : judged b ≡ passed k) where
+  abbrev first : List (List ℕ)
+  first = recordsOf b
+
+  is-block : b ≡ blockOf first
+  is-block = only-good b k bytes accepted .0 .bytes
+
+  first-good : IsBlock (blockOf first) first
+  first-good = let g = only-good b k bytes accepted .0 in record { bytes = refl; each = g .each; some = g .some; most = g .most }
+
+  left : (y : Layout) (cs : List Call) → All (Takes y) cs → (leftBy y (fresh y b) cs ≡ holding y first (stackAfter y first [] cs)) × Reached y first (stackAfter y first [] cs)
+  left y cs a = let l = left-shown y first first-good [] (none-reached y first) cs a in (ap (λ c. leftBy y (fresh y c) cs) is-block ∙ l .0, l .1)
+
+pub standing-put-in : StandingPutIn
+standing-put-in y b k cs bytes accepted takes =
+    subst (λ c. (doneAll y c (sheetOf y []) cs ≡ map (shown y (recordsOf b)) (modelledAll y (recordsOf b) [] cs)) × All (λ d. judged (d .block) ≡ passed k) (doneAll y c (sheetOf y []) cs))
+    (sym (is-block b k bytes accepted))
+    (rw (only-good b k bytes accepted .1) at (all-shown y (recordsOf b) (first-good b k bytes accepted) [] (none-reached y (recordsOf b)) cs takes))
+
+pub model-rule : ModelRule
+model-rule y b k cs bytes accepted takes =
+    let rs = recordsOf b in
+    let es = stackAfter y rs [] cs in
+    let good = first-good b k bytes accepted in
+    let h = left b k bytes accepted y cs takes .1 in (
+      λ e a. ap (stacked es) (amend-accepted y rs es (good .each) h e a) ∙ ap (λ n. record { answer = answer 0 n 0 0; stack = es ++ e ∷ []; out = [] }) (length-append es (e ∷ [])),
+      λ e z. amend-either y rs es (good .each) h e (λ v. stacked es v .answer .n ≡ 0 → Accepts y rs es e) (λ n a l q. absurd (omega arith)) (λ a q. a) z,
+      λ before e q. rw q (model-last y rs good before e (rw q at h)),
+      λ q. rw q (ap (stacked []) (undo-none rs)),
+    )
+
+pub undone-gives-back : UndoneGivesBack
+undone-gives-back y b k cs bytes accepted takes =
+    let rs = recordsOf b in
+    let good = first-good b k bytes accepted in
+    let l = left b k bytes accepted y cs takes in
+    let es = stackAfter y rs [] cs in
+    let all = replicate (length es) undoes in
+    let undone = all-undone y rs good es (l .1) in
+    let t = all-replicate (Takes y) (length es) undoes tt in (
+      ap (λ p. leftBy y p all) (l .0) ∙ left-shown y rs good es (l .1) all t .0 ∙ ap (holding y rs) (undone .0) ∙ ap (fresh y) (sym (is-block b k bytes accepted)),
+      subst (λ p. All (λ d. d .answer .n ≡ 0) (doneAll y (p .block) (p .sheet) all)) (sym (l .0))
+          (rw (all-shown y rs good es (l .1) all t .0) (all-mapped (λ d. d .answer .n ≡ 0) (shown y rs) (modelledAll y rs es all) (undone .1))),
+    )
+
+pub lines-differ : LinesDiffer
+lines-differ y b k cs bytes accepted takes =
+    let rs = recordsOf b in
+    let good = first-good b k bytes accepted in
+    let es = stackAfter y rs [] cs in
+    let ps = putIn rs es in
+    let l = left b k bytes accepted y cs takes in
+    let s = l .1 .stack in
+    let text : textOf (recordsOf (leftBy y (fresh y b) cs .block)) ≡ textOf ps =
+    ap textOf (ap (λ q. recordsOf (q .block)) (l .0) ∙ its-records (blockOf ps) ps (still-block y rs good es (l .1))) in
+    rw text (text-size rs ps (putIn-alike rs es (good .each) s), stack-outside rs es (good .each) s, stack-shows rs es (good .each) s)

@@ -1,0 +1,157 @@
+-- Amend and undo on a stack of standing amendments: which are refused, and what stands after the others.
+use mathlib.Core.Path.{_≡_, refl, sym, ap, _∙_}
+use mathlib.Core.Bool.{true, false, not}
+use mathlib.Core.List.{List, [], _∷_, _++_, append-nil}
+use Prim.Native.Nat.{ℕ, _+_, _-_, _≤_, _<_}
+use native.Mathlib.Omega.{arith}
+use borrow.Author.Tests.{ltb-false, leb-false, eqb-true, eqb-false, not-false, le-ltb, lt-leb, eq-eqb, ne-eqb}
+use lib.Dec.{eqb, ltb, leb}
+use lib.ListN.{length, length-append}
+use lib.Seq.{append-snoc, take-at, getD-at}
+use Rattle.units.specs.Answers.{answer, Verdict, passed, refused}
+use Rattle.units.proofs.Verdicts.{or-off}
+use Rattle.units.proofs.Choosing.{by-test}
+use Rattle.words.specs.Words.{All}
+use Rattle.words.proofs.Laws.{getD-below}
+use Rattle.words.proofs.Lists.{all-append, all-parts}
+use Rattle.record.specs.Rules.{RecordOk}
+use Rattle.record.specs.Values.{isValue}
+use Rattle.sheet.specs.Sheets.{Layout, Entry}
+use Rattle.sheet.specs.Rules.{IsEntry}
+use Rattle.amending.specs.Places.{recordNumber, wordNumber, oldValue, newValue, recordIn, noRecord, noValue, found, withValue, stands}
+use Rattle.amending.specs.Amending.{Standing, standing, amendable, lastOf, othersOf, undoable}
+use Rattle.demands.specs.Demand3.{putIn, Accepts}
+use Rattle.demands.proofs.Values.{Named, Alike, amended-alike, amended-found, put-back, alike-count, alike-value, alike-named}
+use Rattle.demands.proofs.Stack.{Stack, putIn-append, stack-append, stack-parts, putIn-good, putIn-alike}
+
+-- a stack that calls can reach: entries of the layout, no more than it has room for, each one put in
+pub record Reached (y : Layout) (rs : List (List ℕ)) (es : List Entry) : Type 0 where
+  pub each : All (IsEntry y) es
+  pub most : length es ≤ y .limit
+  pub stack : Stack rs es
+
+-- none need stand
+pub none-reached : (y : Layout) (rs : List (List ℕ)) → Reached y rs []
+none-reached y rs = record { each = tt; most = omega arith; stack = tt }
+
+-- row 41 is not given exactly for the numbers of records
+is-record : (rs : List (List ℕ)) (n : ℕ) → noRecord rs n ≡ false → (1 ≤ n) × (n ≤ length rs)
+unfolding noRecord
+is-record rs n e = let o = or-off (eqb n 0) (ltb (length rs) n) e in let z = eqb-false n 0 (o .0) in (omega (arith, z), ltb-false (length rs) n (o .1))
+
+record-is : (rs : List (List ℕ)) (n : ℕ) → 1 ≤ n → n ≤ length rs → noRecord rs n ≡ false
+unfolding noRecord
+record-is rs n h k = simp (ne-eqb n 0 (λ e. omega arith), le-ltb (length rs) n k)
+
+-- ---- amend
+
+module _ (y : Layout) (rs : List (List ℕ)) (es : List Entry) (good : All RecordOk rs) (h : Reached y rs es) where
+  abbrev ps : List (List ℕ)
+  ps = putIn rs es
+
+  alike : Alike rs ps
+  alike = putIn-alike rs es good (h .stack)
+
+  module _ (e : Entry) where
+    told : leb (y .limit) (length es) ≡ false → (1 ≤ recordNumber e) × (recordNumber e ≤ length ps) → isValue (recordIn ps (recordNumber e)) (wordNumber e) ≡ true
+        → oldValue e ≡ found ps e → Accepts y rs es e
+    told room has value old =
+        record {
+          room = leb-false (y .limit) (length es) room;
+          record-is = (has .0, omega (arith, has .1, alike-count rs ps alike));
+          value = sym (alike-value rs ps alike (recordNumber e) (wordNumber e)) ∙ value;
+          old = sym old;
+        }
+
+    -- it is refused, or it is an amendment and stands last
+    pub amend-either : (P : Verdict Standing → Type 0) → ((n a : ℕ) → 0 < n → P (refused (answer n a 0 0)))
+        → (Accepts y rs es e → P (passed (standing (withValue ps e (newValue e)) (es ++ e ∷ [])))) → P (amendable y e (standing ps es))
+    unfolding amendable
+    amend-either P refuses accepts =
+        by-test P (leb (y .limit) (length es)) _ _ (λ _. refuses 44 0 (omega arith)) λ room.
+        by-test P (noRecord ps (recordNumber e)) _ _ (λ _. refuses 41 0 (omega arith)) λ has.
+        by-test P (noValue ps e) _ _ (λ _. refuses 42 0 (omega arith)) λ value.
+        by-test P (not (eqb (oldValue e) (found ps e))) _ _ (λ _. refuses 43 (found ps e) (omega arith)) λ old.
+        accepts (told room (is-record ps (recordNumber e) has) (not-false _ value) (eqb-true (oldValue e) (found ps e) (not-false _ old)))
+
+    -- an amendment is not refused
+    pub amend-accepted : Accepts y rs es e → amendable y e (standing ps es) ≡ passed (standing (withValue ps e (newValue e)) (es ++ e ∷ []))
+    unfolding amendable
+    amend-accepted a =
+        let has = record-is ps (recordNumber e) (a .record-is .0) (omega (arith, a .record-is .1, alike-count rs ps alike)) in
+        let value = alike-value rs ps alike (recordNumber e) (wordNumber e) ∙ a .value in
+        simp (lt-leb (y .limit) (length es) (a .room), has, value, eq-eqb (oldValue e) (found ps e) (sym (a .old)))
+
+    -- and the stack can be reached with it
+    pub reached-on : IsEntry y e → Accepts y rs es e → Reached y rs (es ++ e ∷ [])
+    reached-on is a =
+        record {
+          each = all-append (IsEntry y) es (e ∷ []) (h .each) (is, tt);
+          most = omega (arith, a .room, length-append es (e ∷ []));
+          stack = stack-append rs es (e ∷ []) (h .stack) (record { named = named; old = a .old; new = getD-below 65536 e 3 (omega arith) (is .numbers) }, tt);
+        }
+      where
+        named : Named ps e
+        named = alike-named rs ps alike e (record { least = a .record-is .0; most = a .record-is .1; value = a .value })
+
+-- ---- undo
+
+-- row 46 is not given right after an amendment
+new-stands : (rs : List (List ℕ)) (e : Entry) → All RecordOk rs → Named rs e → stands (withValue rs e (newValue e)) e ≡ true
+unfolding stands
+new-stands rs e good p =
+    let v = newValue e in
+    let n = alike-named rs (withValue rs e v) (amended-alike rs e good p v) e p in
+    simp (record-is (withValue rs e v) (recordNumber e) (n .least) (n .most), n .value, eq-eqb v (found (withValue rs e v) e) (sym (amended-found rs e good p v)))
+
+-- where an entry stands last, the others are those before it
+module _ (before : List Entry) (e : Entry) where
+  abbrev all : List Entry
+  all = before ++ e ∷ []
+
+  length-all : length all ≡ length before + 1
+  length-all = length-append before (e ∷ [])
+
+  last-is : lastOf all ≡ e
+  last-is = getD-at before e [] [] (length all - 1) (omega (arith, length-all))
+
+  others-are : othersOf all ≡ before
+  others-are = take-at before (e ∷ []) (length all - 1) (omega (arith, length-all))
+
+  -- and where its new value stands, its old value is put back
+  undo-standing : (rs : List (List ℕ)) → stands rs e ≡ true → undoable (standing rs all) ≡ passed (standing (withValue rs e (oldValue e)) before)
+  unfolding undoable
+  undo-standing rs s = simp (last-is, others-are, ne-eqb (length all) 0 (λ z. omega (arith, length-all)), s)
+
+  -- of a stack that can be reached, the last one goes
+  module _ (y : Layout) (rs : List (List ℕ)) (good : All RecordOk rs) (h : Reached y rs all) where
+    pub reached-before : Reached y rs before
+    reached-before =
+        record {
+          each = all-parts (IsEntry y) before (e ∷ []) (h .each) .0;
+          most = omega (arith, h .most, length-all);
+          stack = stack-parts rs before (e ∷ []) (h .stack) .0;
+        }
+
+    pub undo-last : undoable (standing (putIn rs all) all) ≡ passed (standing (putIn rs before) before)
+    undo-last =
+        let qs = putIn rs before in
+        let g = putIn-good rs before good (reached-before .stack) in
+        let fit = stack-parts rs before (e ∷ []) (h .stack) .1 .0 in
+        let v = newValue e in
+        ap (λ ss. undoable (standing ss all)) (putIn-append rs before (e ∷ []))
+        ∙ undo-standing (withValue qs e v) (new-stands qs e g (fit .named))
+        ∙ ap (λ ss. passed (standing ss before)) (ap (withValue (withValue qs e v) e) (sym (fit .old)) ∙ put-back qs e g (fit .named) v)
+
+-- and where none stands, row 45
+pub undo-none : (rs : List (List ℕ)) → undoable (standing rs []) ≡ refused (answer 45 0 0 0)
+unfolding undoable
+undo-none rs = refl
+
+-- what holds of no entry, and goes from some to one more behind them, holds of all
+pub from-end : (P : List Entry → Type 0) → P [] → ((before : List Entry) (e : Entry) → P before → P (before ++ e ∷ [])) → (es : List Entry) → P es
+from-end P none more es = go [] none es
+  where
+    go : (before : List Entry) → P before → (es : List Entry) → P (before ++ es)
+    go before p [] = rw append-nil p
+    go before p (e ∷ es) = rw append-snoc at (go (before ++ e ∷ []) (more before e p) es)

@@ -1,0 +1,82 @@
+-- The standing amendments as a stack over good records: what they leave as it was.
+use mathlib.Core.Path.{_≡_, refl, sym, ap, _∙_}
+use mathlib.Core.List.{List, [], _∷_, _++_, map, foldr}
+use Prim.Native.Nat.{ℕ, _+_, _<_}
+use native.Mathlib.Omega.{arith}
+use lib.ListN.{length, length-append}
+use Rattle.words.specs.Words.{joined, All}
+use Rattle.words.proofs.Lists.{all-map}
+use Rattle.record.specs.Rules.{RecordOk}
+use Rattle.block.specs.Rules.{blockOf, IsBlock}
+use Rattle.sheet.specs.Sheets.{Entry}
+use Rattle.amending.specs.Places.{oldValue, newValue, found, withValue}
+use Rattle.demands.specs.Demand3.{putIn}
+use Rattle.demands.proofs.Values.{Named, Alike, steady-size, amended-good, amended-alike, alike-count, alike-named}
+
+-- an entry names a value of these records, its old value stands there, and its new value is a word
+pub record Fits (rs : List (List ℕ)) (e : Entry) : Type 0 where
+  pub named : Named rs e
+  pub old : found rs e ≡ oldValue e
+  pub new : newValue e < 65536
+
+-- each fits the records that those before it leave
+abbrev pub Stack : List (List ℕ) → List Entry → Type 0
+Stack rs [] = Unit {0}
+Stack rs (e ∷ es) = Fits rs e × Stack (withValue rs e (newValue e)) es
+
+-- ---- two stacks, one on the other
+
+pub putIn-append : (rs : List (List ℕ)) (es fs : List Entry) → putIn rs (es ++ fs) ≡ putIn (putIn rs es) fs
+putIn-append rs [] fs = refl
+putIn-append rs (e ∷ es) fs = putIn-append (withValue rs e (newValue e)) es fs
+
+pub stack-append : (rs : List (List ℕ)) (es fs : List Entry) → Stack rs es → Stack (putIn rs es) fs → Stack rs (es ++ fs)
+stack-append rs [] fs s t = t
+stack-append rs (e ∷ es) fs s t = (s .0, stack-append (withValue rs e (newValue e)) es fs (s .1) t)
+
+pub stack-parts : (rs : List (List ℕ)) (es fs : List Entry) → Stack rs (es ++ fs) → Stack rs es × Stack (putIn rs es) fs
+stack-parts rs [] fs s = (tt, s)
+stack-parts rs (e ∷ es) fs s = let p = stack-parts (withValue rs e (newValue e)) es fs (s .1) in ((s .0, p .0), p .1)
+
+-- ---- what they leave
+
+module _ (rs : List (List ℕ)) (e : Entry) (good : All RecordOk rs) (f : Fits rs e) where
+  pub put-good : All RecordOk (withValue rs e (newValue e))
+  put-good = amended-good rs e good (f .named) (newValue e) (f .new)
+
+  pub put-alike : Alike rs (withValue rs e (newValue e))
+  put-alike = amended-alike rs e good (f .named) (newValue e)
+
+pub putIn-good : (rs : List (List ℕ)) (es : List Entry) → All RecordOk rs → Stack rs es → All RecordOk (putIn rs es)
+putIn-good rs [] good s = good
+putIn-good rs (e ∷ es) good s = putIn-good (withValue rs e (newValue e)) es (put-good rs e good (s .0)) (s .1)
+
+pub putIn-alike : (rs : List (List ℕ)) (es : List Entry) → All RecordOk rs → Stack rs es → Alike rs (putIn rs es)
+putIn-alike rs [] good s A f t = refl
+putIn-alike rs (e ∷ es) good s A f t = putIn-alike (withValue rs e (newValue e)) es (put-good rs e good (s .0)) (s .1) A f t ∙ put-alike rs e good (s .0) A f t
+
+-- each names a value of the first records
+pub stack-named : (rs : List (List ℕ)) (es : List Entry) → All RecordOk rs → Stack rs es → All (Named rs) es
+stack-named rs [] good s = tt
+stack-named rs (e ∷ es) good s =
+    let ss = withValue rs e (newValue e) in
+    let back : Alike ss rs = λ A f t. sym (put-alike rs e good (s .0) A f t) in
+    (s .0 .named, all-map (Named ss) (Named rs) (alike-named ss rs back) es (stack-named ss es (put-good rs e good (s .0)) (s .1)))
+
+-- numbers added up
+abbrev pub total : List ℕ → ℕ
+total = foldr (λ n t. n + t) 0
+
+length-joined : (rs : List (List ℕ)) → length (joined rs) ≡ total (map length rs)
+unfolding joined
+length-joined [] = refl
+length-joined (r ∷ rs) = length-append r (joined rs) ∙ ap (λ n. length r + n) (length-joined rs)
+
+-- a block of them is a good block again
+module _ (rs : List (List ℕ)) (es : List Entry) (good : IsBlock (blockOf rs) rs) (s : Stack rs es) where
+  pub putIn-block : IsBlock (blockOf (putIn rs es)) (putIn rs es)
+  putIn-block =
+      let a = putIn-alike rs es (good .each) s in
+      let n = alike-count rs (putIn rs es) a in
+      let m = length-joined (putIn rs es) ∙ ap total (a ℕ length steady-size) ∙ sym (length-joined rs) in
+      record { bytes = refl; each = putIn-good rs es (good .each) s; some = omega (arith, good .some, n); most = omega (arith, good .most, m) }

@@ -1,0 +1,178 @@
+-- One value of good records amended: what it changes, and what it leaves.
+use mathlib.Core.Path.{_≡_, refl, sym, ap, _∙_}
+use mathlib.Core.Bool.{Bool, true, false, _||_}
+use mathlib.Core.List.{List, [], _∷_, map}
+use Prim.Native.Nat.{ℕ, zero, suc, _+_, _-_, _≤_, _<_}
+use native.Mathlib.Omega.{arith}
+use borrow.Author.Tests.{leb-true, eqb-true}
+use lib.Dec.{leb, eqb}
+use lib.ListN.{length, getD, set, length-set, length-map, List·getD-map}
+use lib.Seq.{getD-set-same, getD-set-other, set-getD, set-set, map-set-same}
+use Rattle.units.proofs.Verdicts.{and-on}
+use Rattle.words.specs.Words.{word, All}
+use Rattle.record.specs.Judging.{within, wordsNeeded}
+use Rattle.record.specs.Rules.{dataRecord, RecordOk}
+use Rattle.record.specs.Values.{isValue}
+use Rattle.lines.specs.Columns.{columnsBefore}
+use Rattle.lines.proofs.Sizes.{is-data}
+use Rattle.sheet.specs.Sheets.{Entry}
+use Rattle.amending.specs.Places.{recordNumber, wordNumber, recordIn, found, withValue}
+
+-- ---- lists
+
+module _ {A : Type 0} (P : A → Type 0) where
+  -- what holds of all holds of each
+  all-at : (l : List A) (i : ℕ) (d : A) → i < length l → All P l → P (getD l i d)
+  all-at [] i d h a = absurd (omega arith)
+  all-at (x ∷ xs) zero d h a = a .0
+  all-at (x ∷ xs) (suc i) d h a = all-at xs i d (omega arith) (a .1)
+
+  -- and of all, one of them replaced
+  all-set : (l : List A) (i : ℕ) (x : A) → P x → All P l → All P (set l i x)
+  all-set [] i x p a = tt
+  all-set (y ∷ ys) zero x p a = (p, a .1)
+  all-set (y ∷ ys) (suc i) x p a = (a .0, all-set ys i x p (a .1))
+
+-- ---- a value's word
+
+-- word j + 1 stands behind the counts of a good Data record
+pub record ValueWord (r : List ℕ) (j : ℕ) : Type 0 where
+  pub ok : RecordOk r
+  pub kind : word r 2 ≡ 1002
+  pub low : 16 ≤ j
+  pub high : j < length r
+
+either-on : (s t : Bool) {P : Type 0} → (s ≡ true → P) → (t ≡ true → P) → (s || t) ≡ true → P
+either-on true t h k e = h refl
+either-on false t h k e = k e
+
+within-on : (least most x : ℕ) → within least most x ≡ true → (least ≤ x) × (x ≤ most)
+within-on least most x e = let a = and-on (leb least x) (leb x most) e in (leb-true least x (a .0), leb-true x most (a .1))
+
+-- a value is such a word
+value-word : (r : List ℕ) (w : ℕ) → RecordOk r → isValue r w ≡ true → ValueWord r (w - 1)
+unfolding isValue
+value-word r w h e =
+    let codes = word r 13 + word r 14 in
+    let values = codes + word r 14 in
+    let all = wordsNeeded (word r 13) (word r 14) (word r 15) (word r 16) in
+    let a = and-on (eqb (word r 2) 1002) (within (codes + 1) values w || within (values + word r 15 + 1) all w) e in
+    let kind = eqb-true (word r 2) 1002 (a .0) in
+    let d = is-data r h kind in
+    let ends : (17 ≤ w) × (w ≤ length r) =
+    either-on (within (codes + 1) values w) (within (values + word r 15 + 1) all w)
+    (λ q. let b = within-on (codes + 1) values w q in (omega (arith, d .lprol .least-is, b .0), omega (arith, d .sum, b .1)))
+    (λ q. let b = within-on (values + word r 15 + 1) all w q in (omega (arith, d .lprol .least-is, b .0), omega (arith, d .sum, b .1)))
+    (a .1) in
+    record { ok = h; kind = kind; low = omega (arith, ends .0); high = omega (arith, ends .0, ends .1) }
+
+-- the first 16 words stay, whatever is put there
+module _ (r : List ℕ) (j v : ℕ) (h : ValueWord r j) where
+  same : (i : ℕ) → i < 16 → getD (set r j v) i 0 ≡ getD r i 0
+  same i l = getD-set-other r j i v 0 (λ e. omega (arith, h .low))
+
+  -- and the record is good again
+  set-ok : v < 65536 → RecordOk (set r j v)
+  set-ok fits =
+      let d = is-data r (h .ok) (h .kind) in
+      record {
+        total = same 0 (omega arith) ∙ h .ok .total ∙ sym (length-set r j v);
+        kind =
+            dataRecord (same 1 (omega arith) ∙ h .kind)
+            (record {
+              lprol = rw (same 12 (omega arith)) (d .lprol);
+              jpar = rw (same 13 (omega arith)) (d .jpar);
+              mpar = rw (same 14 (omega arith)) (d .mpar);
+              nrow = rw (same 15 (omega arith)) (d .nrow);
+              sum = rw (length-set r j v, same 12 (omega arith), same 13 (omega arith), same 14 (omega arith), same 15 (omega arith)) (d .sum);
+            });
+        sized = all-set (λ w. w < 65536) r j v fits (h .ok .sized);
+      }
+
+-- ---- one amendment
+
+-- an entry names a value of these records
+pub record Named (rs : List (List ℕ)) (e : Entry) : Type 0 where
+  pub least : 1 ≤ recordNumber e
+  pub most : recordNumber e ≤ length rs
+  pub value : isValue (recordIn rs (recordNumber e)) (wordNumber e) ≡ true
+
+-- what no amendment changes of a record
+abbrev pub Steady : {A : Type 0} → (List ℕ → A) → Type 0
+Steady f = (r : List ℕ) (j v : ℕ) → ValueWord r j → f (set r j v) ≡ f r
+
+pub steady-value : (w : ℕ) → Steady (λ r. isValue r w)
+unfolding isValue
+steady-value w r j v h =
+    rw (same r j v h 1 (omega arith), same r j v h 12 (omega arith), same r j v h 13 (omega arith), same r j v h 14 (omega arith), same r j v h 15 (omega arith))
+
+pub steady-columns : (i : ℕ) → Steady (λ r. columnsBefore r i)
+steady-columns i r j v h = rw (same r j v h 12 (omega arith), same r j v h 13 (omega arith), same r j v h 14 (omega arith), same r j v h 15 (omega arith))
+
+pub steady-size : Steady length
+steady-size r j v h = length-set r j v
+
+-- records that nothing of the kind tells from others
+abbrev pub Alike : List (List ℕ) → List (List ℕ) → Type 1
+Alike rs ss = (A : Type 0) (f : List ℕ → A) → Steady f → map f ss ≡ map f rs
+
+-- the record that an entry names, and how many records and words stand before its value
+abbrev pub its : List (List ℕ) → Entry → List ℕ
+its rs e = recordIn rs (recordNumber e)
+
+abbrev pub recordsBefore : Entry → ℕ
+recordsBefore e = recordNumber e - 1
+
+abbrev pub wordsBefore : Entry → ℕ
+wordsBefore e = wordNumber e - 1
+
+module _ (rs : List (List ℕ)) (e : Entry) (good : All RecordOk rs) (p : Named rs e) where
+  pub inside : recordsBefore e < length rs
+  inside = omega (arith, p .least, p .most)
+
+  pub named-word : ValueWord (its rs e) (wordsBefore e)
+  named-word = value-word (its rs e) (wordNumber e) (all-at RecordOk rs (recordsBefore e) [] inside good) (p .value)
+
+  module _ (v : ℕ) where
+    -- the record with the value in it
+    abbrev amended : List ℕ
+    amended = set (its rs e) (wordsBefore e) v
+
+    pub amended-good : v < 65536 → All RecordOk (withValue rs e v)
+    unfolding withValue
+    amended-good fits = all-set RecordOk rs (recordsBefore e) amended (set-ok (its rs e) (wordsBefore e) v named-word fits) good
+
+    pub amended-alike : Alike rs (withValue rs e v)
+    unfolding withValue
+    amended-alike A f s = map-set-same f rs (recordsBefore e) amended [] (s (its rs e) (wordsBefore e) v named-word)
+
+    its-amended : its (withValue rs e v) e ≡ amended
+    unfolding withValue
+    its-amended = getD-set-same rs (recordsBefore e) amended [] inside
+
+    -- the value stands there
+    pub amended-found : found (withValue rs e v) e ≡ v
+    amended-found = ap (λ r. word r (wordNumber e)) its-amended ∙ getD-set-same (its rs e) (wordsBefore e) v 0 (named-word .high)
+
+    -- and what stood there, put back, gives the records back
+    pub put-back : withValue (withValue rs e v) e (found rs e) ≡ rs
+    unfolding withValue
+    put-back =
+        set-set rs (recordsBefore e) amended _
+        ∙ ap (λ r. set rs (recordsBefore e) (set r (wordsBefore e) (found rs e))) its-amended
+        ∙ ap (set rs (recordsBefore e)) (set-set (its rs e) (wordsBefore e) v (found rs e) ∙ set-getD (its rs e) (wordsBefore e) 0)
+        ∙ set-getD rs (recordsBefore e) []
+
+-- they are as many, each is the same to such a reading, and they have values at the same places
+module _ (rs ss : List (List ℕ)) (alike : Alike rs ss) where
+  pub alike-count : length ss ≡ length rs
+  alike-count = sym (length-map ss length) ∙ ap length (alike ℕ length steady-size) ∙ length-map rs length
+
+  pub alike-record : {A : Type 0} (f : List ℕ → A) → Steady f → (n : ℕ) → f (recordIn ss n) ≡ f (recordIn rs n)
+  alike-record {A} f s n = sym (List·getD-map f ss (n - 1) []) ∙ ap (λ l. getD l (n - 1) (f [])) (alike A f s) ∙ List·getD-map f rs (n - 1) []
+
+  pub alike-value : (n w : ℕ) → isValue (recordIn ss n) w ≡ isValue (recordIn rs n) w
+  alike-value n w = alike-record (λ r. isValue r w) (steady-value w) n
+
+  pub alike-named : (e : Entry) → Named rs e → Named ss e
+  alike-named e p = record { least = p .least; most = omega (arith, p .most, alike-count); value = alike-value (recordNumber e) (wordNumber e) ∙ p .value }

@@ -1,0 +1,160 @@
+-- Demand 3: "Amend and undo, in any sequence, refused ones among them: the block is the first block with the standing
+-- amendments put in, oldest first, its checksum fresh; its lines differ only in the amended six columns; undoing all gives
+-- back both buffers exactly."
+use mathlib.Core.Path.{_≡_}
+use mathlib.Core.Logic.{_⊎_}
+use mathlib.Core.Bool.{true}
+use mathlib.Core.List.{List, [], _∷_, _++_, map}
+use Prim.Native.Nat.{ℕ, _+_, _-_, _≤_, _<_}
+use lib.ListN.{length, getD, take, replicate}
+use lib.Seq.{slice}
+use Rattle.units.specs.declared.Answer.{Answer}
+use Rattle.units.specs.Answers.{answer, Verdict, passed, refused}
+use Rattle.words.specs.Words.{All, Below}
+use Rattle.words.specs.Outcomes.{written}
+use Rattle.record.specs.Values.{isValue}
+use Rattle.block.specs.Judging.{judged}
+use Rattle.block.specs.Records.{recordsOf}
+use Rattle.block.specs.Rules.{blockOf}
+use Rattle.field.specs.Writing.{fieldOf}
+use Rattle.lines.specs.Text.{textOf, toLines}
+use Rattle.lines.specs.Columns.{columnsBefore}
+use Rattle.sheet.specs.Sheets.{Layout, Entry, sheetOf}
+use Rattle.sheet.specs.Rules.{IsEntry}
+use Rattle.amending.specs.Places.{recordNumber, wordNumber, oldValue, newValue, recordIn, found, withValue}
+use Rattle.amending.specs.Amending.{Amended, Standing, standing, amendable, undoable, amend, undo}
+
+-- ---- the calls
+
+-- a call on a block and its sheet: amend with any numbers, undo, or convert to lines with any output
+pub data Call : Type 0 where
+  amends : Entry → Call
+  undoes : Call
+  prints : List ℕ → Call
+
+-- what a call leaves: its answer, both buffers, and the output that was lent to a conversion
+pub record Done : Type 0 where
+  pub answer : Answer
+  pub block : List ℕ
+  pub sheet : List ℕ
+  pub out : List ℕ
+
+abbrev pub ofBoth : Amended → Done
+ofBoth a = record { answer = a .answer; block = a .block; sheet = a .sheet; out = [] }
+
+-- what the call's definition says
+abbrev pub done : Layout → List ℕ → List ℕ → Call → Done
+done y block sheet (amends e) = ofBoth (amend y e block sheet)
+done y block sheet undoes = ofBoth (undo y block sheet)
+done y block sheet (prints text) = record { answer = toLines block text .answer; block = block; sheet = sheet; out = toLines block text .out }
+
+-- "in any sequence": each call finds what the one before it left
+abbrev pub doneAll : Layout → List ℕ → List ℕ → List Call → List Done
+doneAll y block sheet [] = []
+doneAll y block sheet (c ∷ cs) = let d = done y block sheet c in d ∷ doneAll y (d .block) (d .sheet) cs
+
+-- both buffers when all calls are over
+pub record Buffers : Type 0 where
+  pub block : List ℕ
+  pub sheet : List ℕ
+
+abbrev pub leftBy : Layout → Buffers → List Call → Buffers
+leftBy y p [] = p
+leftBy y p (c ∷ cs) = let d = done y (p .block) (p .sheet) c in leftBy y (record { block = d .block; sheet = d .sheet }) cs
+
+-- a block and an empty sheet
+abbrev pub fresh : Layout → List ℕ → Buffers
+fresh y block = record { block = block; sheet = sheetOf y [] }
+
+-- the numbers of an amend call are as many as the layout says, and 16-bit ones
+abbrev pub Takes : Layout → Call → Type 0
+Takes y (amends e) = IsEntry y e
+Takes y undoes = Unit {0}
+Takes y (prints text) = Unit {0}
+
+-- ---- the model: a stack of amendments over the records of the first block; no bytes, no sheet, no checksum
+
+-- "the standing amendments put in, oldest first"
+abbrev pub putIn : List (List ℕ) → List Entry → List (List ℕ)
+putIn rs [] = rs
+putIn rs (e ∷ es) = putIn (withValue rs e (newValue e)) es
+
+-- the answer to a call, the stack afterwards, and the output of a conversion
+pub record Modelled : Type 0 where
+  pub answer : Answer
+  pub stack : List Entry
+  pub out : List ℕ
+
+-- an amendment or its undoing: the entries that then stand, or the stack as it was
+abbrev pub stacked : List Entry → Verdict Standing → Modelled
+stacked es (passed t) = record { answer = answer 0 (length (t .entries)) 0 0; stack = t .entries; out = [] }
+stacked es (refused r) = record { answer = r; stack = es; out = [] }
+
+-- what the model does
+abbrev pub modelled : Layout → List (List ℕ) → List Entry → Call → Modelled
+modelled y rs es (amends e) = stacked es (amendable y e (standing (putIn rs es) es))
+modelled y rs es undoes = stacked es (undoable (standing (putIn rs es) es))
+modelled y rs es (prints text) =
+    let w = written text (passed (textOf (putIn rs es))) in record { answer = w .answer; stack = es; out = w .out }
+
+abbrev pub modelledAll : Layout → List (List ℕ) → List Entry → List Call → List Modelled
+modelledAll y rs es [] = []
+modelledAll y rs es (c ∷ cs) = let m = modelled y rs es c in m ∷ modelledAll y rs (m .stack) cs
+
+-- the stack when all calls are over
+abbrev pub stackAfter : Layout → List (List ℕ) → List Entry → List Call → List Entry
+stackAfter y rs es [] = es
+stackAfter y rs es (c ∷ cs) = stackAfter y rs (modelled y rs es c .stack) cs
+
+-- "the stated old value stands, in the block so amended, at a value place", and there is room
+pub record Accepts (y : Layout) (rs : List (List ℕ)) (es : List Entry) (e : Entry) : Type 0 where
+  pub room : length es < y .limit
+  pub record-is : (1 ≤ recordNumber e) × (recordNumber e ≤ length rs)
+  pub value : isValue (recordIn rs (recordNumber e)) (wordNumber e) ≡ true
+  pub old : found (putIn rs es) e ≡ oldValue e
+
+-- ---- the demand, from an accepted block of so many records and an empty sheet
+
+-- the rule of acceptance: amend succeeds exactly when the amendment is one, and then it stands last; undo exactly when one stands
+abbrev pub ModelRule : Type 0
+ModelRule =
+    (y : Layout) (b : List ℕ) (k : ℕ) (cs : List Call) → Below 256 b → judged b ≡ passed k → All (Takes y) cs →
+    let rs = recordsOf b in let es = stackAfter y rs [] cs in
+    ((e : Entry) → Accepts y rs es e → modelled y rs es (amends e) ≡ record { answer = answer 0 (length es + 1) 0 0; stack = es ++ e ∷ []; out = [] })
+    × ((e : Entry) → modelled y rs es (amends e) .answer .n ≡ 0 → Accepts y rs es e)
+    × ((before : List Entry) (e : Entry) → es ≡ before ++ e ∷ [] → modelled y rs es undoes ≡ record { answer = answer 0 (length before) 0 0; stack = before; out = [] })
+    × (es ≡ [] → modelled y rs es undoes ≡ record { answer = answer 45 0 0 0; stack = []; out = [] })
+
+-- what the calls leave where the model leaves this
+abbrev pub shown : Layout → List (List ℕ) → Modelled → Done
+shown y rs m = record { answer = m .answer; block = blockOf (putIn rs (m .stack)); sheet = sheetOf y (m .stack); out = m .out }
+
+-- "the block is the first block with the standing amendments put in, oldest first, its checksum fresh";
+-- every answer, sheet and output is the model's too, and the block is accepted with as many records
+abbrev pub StandingPutIn : Type 0
+StandingPutIn =
+    (y : Layout) (b : List ℕ) (k : ℕ) (cs : List Call) → Below 256 b → judged b ≡ passed k → All (Takes y) cs →
+    (doneAll y b (sheetOf y []) cs ≡ map (shown y (recordsOf b)) (modelledAll y (recordsOf b) [] cs))
+    × All (λ d. judged (d .block) ≡ passed k) (doneAll y b (sheetOf y []) cs)
+
+-- the first of the six columns of the number that an entry names: the texts of the records before, and the columns before it
+abbrev pub columnOf : List (List ℕ) → Entry → ℕ
+columnOf rs e = length (textOf (take (recordNumber e - 1) rs)) + columnsBefore (recordIn rs (recordNumber e)) (wordNumber e - 1)
+
+-- "its lines differ only in the amended six columns", which show the value that stands
+abbrev pub LinesDiffer : Type 0
+LinesDiffer =
+    (y : Layout) (b : List ℕ) (k : ℕ) (cs : List Call) → Below 256 b → judged b ≡ passed k → All (Takes y) cs →
+    let rs = recordsOf b in let es = stackAfter y rs [] cs in
+    let first = textOf rs in let text = textOf (recordsOf (leftBy y (fresh y b) cs .block)) in
+    (length text ≡ length first)
+    × ((i : ℕ) → All (λ e. (i < columnOf rs e) ⊎ (columnOf rs e + 6 ≤ i)) es → getD text i 0 ≡ getD first i 0)
+    × All (λ e. slice (columnOf rs e) (columnOf rs e + 6) text ≡ fieldOf (found (putIn rs es) e)) es
+
+-- "undoing all gives back both buffers exactly", and no undo on the way is refused
+abbrev pub UndoneGivesBack : Type 0
+UndoneGivesBack =
+    (y : Layout) (b : List ℕ) (k : ℕ) (cs : List Call) → Below 256 b → judged b ≡ passed k → All (Takes y) cs →
+    let all = replicate (length (stackAfter y (recordsOf b) [] cs)) undoes in let p = leftBy y (fresh y b) cs in
+    (leftBy y p all ≡ fresh y b)
+    × All (λ d. d .answer .n ≡ 0) (doneAll y (p .block) (p .sheet) all)

@@ -1,0 +1,51 @@
+-- Where a word stands that may be amended.
+use mathlib.Core.Path.{_≡_, refl}
+use mathlib.Core.Bool.{Bool, true, false, _||_}
+use mathlib.Core.List.{List}
+use Prim.Native.Nat.{ℕ, _+_, _≤_, _<_}
+use native.Mathlib.Omega.{arith}
+use borrow.Author.Tests.{leb-true, eqb-true}
+use lib.Dec.{leb, eqb}
+use lib.ListN.{length}
+use Rattle.units.proofs.Verdicts.{and-on}
+use Rattle.words.specs.Words.{word}
+use Rattle.record.specs.Judging.{within, wordsNeeded}
+use Rattle.record.specs.Rules.{DataOk, KindOk, catalogue, header, dataRecord, RecordOk}
+use Rattle.record.specs.Values.{isValue}
+
+-- what follows from each of two tests
+either-on : {P : Type 0} (s t : Bool) → (s ≡ true → P) → (t ≡ true → P) → (s || t) ≡ true → P
+either-on true t h k e = h refl
+either-on false t h k e = k e
+
+within-on : (least most x : ℕ) → within least most x ≡ true → (least ≤ x) × (x ≤ most)
+within-on least most x e = let a = and-on (leb least x) _ e in (leb-true least x (a .0), leb-true x most (a .1))
+
+-- in the range of the 1-D values, or of the 2-D values
+in-ranges : (codes values second all w : ℕ) → 16 ≤ codes → codes ≤ values → values ≤ second → values ≤ all
+    → (within (codes + 1) values w || within (second + 1) all w) ≡ true → (16 < w) × (w ≤ all)
+in-ranges codes values second all w long more past whole =
+    either-on (within (codes + 1) values w) (within (second + 1) all w)
+    (λ t. let m = within-on (codes + 1) values w t in (omega arith, omega arith))
+    (λ t. let m = within-on (second + 1) all w t in (omega arith, omega arith))
+
+-- it is a word of a Data record, behind the counts
+pub record ValueAt (r : List ℕ) (w : ℕ) : Type 0 where
+  pub kind : word r 2 ≡ 1002
+  pub low : 16 < w
+  pub high : w ≤ length r
+
+pub value-at : (r : List ℕ) (w : ℕ) → RecordOk r → isValue r w ≡ true → ValueAt r w
+unfolding isValue
+value-at r w h e =
+    let codes = word r 13 + word r 14 in
+    let values = codes + word r 14 in
+    let all = wordsNeeded (word r 13) (word r 14) (word r 15) (word r 16) in
+    let a = and-on (eqb (word r 2) 1002) (within (codes + 1) values w || within (values + word r 15 + 1) all w) e in
+    by (h .kind) (eqb-true (word r 2) 1002 (a .0))
+    (λ d. in-ranges codes values (values + word r 15) all w (omega (arith, d .lprol .least-is)) (omega arith) (omega arith) (omega arith) (a .1))
+  where
+    by : KindOk r → word r 2 ≡ 1002 → (DataOk r → (16 < w) × (w ≤ wordsNeeded (word r 13) (word r 14) (word r 15) (word r 16))) → ValueAt r w
+    by (catalogue f c) k m = absurd (omega arith)
+    by (header f c) k m = absurd (omega arith)
+    by (dataRecord f d) k m = record { kind = k; low = m d .0; high = omega (arith, m d .1, d .sum) }

@@ -1,0 +1,23 @@
+use denote.Ref.{now}
+use native.Mathlib.Omega.{arith}
+use Rattle.sheet.proofs.Stores.{last-cleared}
+use Rattle.sheet.proofs.Sheets.{length-sheet}
+use Rattle.sheet.specs.Sheets.{version1, entriesOf}
+use borrow.Author.Needs.{needs}
+use Rattle.sheet.proofs.clear_last.Statement.{statement}
+use Rattle.sheet.proofs.clear_last.Tie as tie
+
+put-numbers-requires : tie.Need-put-numbers-requires
+put-numbers-requires c κs = let s = now (c .before .before .args .sheet) in (omega (arith, c .before .before .pre .1, c .before .before .pre .0 .most), length-sheet version1 s (entriesOf version1 s) (c .before .before .pre .0))
+
+put-count-requires : tie.Need-put-count-requires
+put-count-requires c κs = let s = now (c .before .before .before .before .before .before .args .sheet) in omega (arith, c .before .before .before .put-numbers .kept .0, length-sheet version1 s (entriesOf version1 s) (c .before .before .before .before .before .before .pre .0))
+
+same-length : tie.Need-same-length
+same-length c = search needs
+
+returns : tie.Need-returns
+returns c = last-cleared (now (c .before .before .before .before .before .before .before .before .before .args .sheet)) (c .before .before .before .before .before .before .before .before .before .args .left) (c .before .before .before .before .before .before .before .before .before .pre .0) (c .before .before .before .before .before .before .before .before .before .pre .1) (c .before .before .before .before .before .before .put-numbers .ensures) (c .before .before .put-count .ensures)
+
+pub clear-last-spec : {M : Type 1} → statement M
+clear-last-spec = tie.close (tie.spec put-numbers-requires put-count-requires same-length returns)

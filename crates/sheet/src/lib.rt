@@ -1,0 +1,196 @@
+// The amendment sheet: its layout, its entries, and starting one.
+use units::Answer;
+use units::Bytes;
+use units::Words;
+ghost use mathlib.Core.Path.{_≡_};
+ghost use mathlib.Core.Bool.{not};
+ghost use mathlib.Core.List.{[], _∷_, _++_};
+ghost use Prim.Native.Nat.{_+_, _-_, _*_, _≤_, _<_};
+ghost use lib.ListN.{length, getD, take, drop, replicate};
+ghost use lib.Seq.{sets};
+ghost use Rattle.units.specs.Units.{bytesOfWords};
+ghost use Rattle.units.specs.Answers.{answered};
+ghost use Rattle.words.specs.Words.{wordsOf, bytesOf};
+ghost use Rattle.words.specs.Outcomes.{leaves};
+ghost use Rattle.sheet.specs.Sheets.{version1, sheetBytes, sheetOf, numberAt, numbersIn, entriesOf, zeros, wrongMark, broken, opened, started};
+ghost use Rattle.sheet.specs.Rules.{KeepsLayout};
+ghost use Rattle.sheet.specs.Cases.{entryOf, openedOf};
+
+pub const VERSION: u16 = 1;
+
+// So many entries at most.
+pub const LIMIT: u16 = 64;
+
+// The four numbers of an entry.
+pub struct Amendment {
+    pub number: u16,
+    pub word: u16,
+    pub old: u16,
+    pub new: u16,
+}
+
+// What is found of a sheet: so many amendments stand, or it does not keep its layout.
+pub enum Opened {
+    Standing(u16),
+    Broken,
+}
+
+// The number behind `at` bytes.
+fn number_at(sheet: &[u8], at: Bytes) -> u16
+    requires { ⌜ at .0 + 1 < length (now sheet) ⌝ }
+    ensures { λ r. ⌜ r ≡ numberAt (now (sheet .entry)) (at .0) ⌝ }
+{
+    let high = at.0;
+    let end = high + 2;
+    words::word_at(&sheet[high..end], Words(0))
+}
+
+// The first three bytes are not "AMD".
+fn wrong_mark(sheet: &[u8]) -> bool
+    requires { ⌜ 8 ≤ length (now sheet) ⌝ }
+    ensures { λ r. ⌜ r ≡ wrongMark (now (sheet .entry)) ⌝ }
+{
+    if sheet[0] != b'A' {
+        return true;
+    }
+    if sheet[1] != b'M' {
+        return true;
+    }
+    sheet[2] != b'D'
+}
+
+// The words of a sheet before entry `i`, counted from 0.
+fn before_entry(i: u16) -> Words
+    ensures { λ r. ⌜ r .0 ≡ 4 + i * 4 ⌝ }
+{
+    Words(4 + (i as usize) * 4)
+}
+
+// Something stands past the first `count` entries.
+fn more_stands(sheet: &[u8], count: u16) -> bool
+    requires { ⌜ (count ≤ 64) × (length (now sheet) ≡ sheetBytes version1) ⌝ }
+    ensures { λ r. ⌜ r ≡ not (zeros (drop (count * 4) (numbersIn (now (sheet .entry))))) ⌝ }
+{
+    let rest = words::part(sheet, before_entry(count), before_entry(LIMIT));
+    let clear = record::first_outside(rest, 0, 0).0;
+    let all = words::count(rest).0;
+    clear != all
+}
+
+// The sheet does not keep its layout.
+fn is_broken(sheet: &[u8]) -> bool
+    ensures { λ r. ⌜ r ≡ broken version1 (now (sheet .entry)) ⌝ }
+{
+    if sheet.len() != 520 {
+        return true;
+    }
+    if wrong_mark(sheet) {
+        return true;
+    }
+    if number_at(sheet, Bytes(3)) != VERSION {
+        return true;
+    }
+    let count = number_at(sheet, Bytes(5));
+    if LIMIT < count {
+        return true;
+    }
+    if sheet[7] != 0 {
+        return true;
+    }
+    more_stands(sheet, count)
+}
+
+// How many amendments stand in a sheet, if it keeps its layout.
+pub fn open(sheet: &[u8]) -> Opened
+    ensures { λ r. ⌜ openedOf r ≡ opened version1 (now (sheet .entry)) ⌝ }
+{
+    if is_broken(sheet) {
+        return Opened::Broken;
+    }
+    Opened::Standing(number_at(sheet, Bytes(5)))
+}
+
+// Puts zeros in place of all bytes.
+fn clear(sheet: &mut [u8])
+    ensures { λ _. ⌜ now (sheet .exit) ≡ replicate (length (now (sheet .entry))) 0 ⌝ }
+{
+    let mut i = 0;
+    while i < sheet.len() {
+        sheet[i] = 0;
+        i += 1;
+    }
+}
+
+// Starts a sheet: no amendment stands in it.
+pub fn start(sheet: &mut [u8]) -> Opened
+    ensures { λ r. ⌜ leaves (answered (openedOf r)) (now (sheet .exit)) ≡ started version1 (now (sheet .entry)) ⌝ }
+{
+    if sheet.len() != 520 {
+        return Opened::Broken;
+    }
+    clear(sheet);
+    sheet[0] = b'A';
+    sheet[1] = b'M';
+    sheet[2] = b'D';
+    sheet[4] = 1;
+    Opened::Standing(0)
+}
+
+// Amendment `i`, counted from 0.
+pub fn entry_at(sheet: &[u8], i: u16) -> Amendment
+    requires { ⌜ KeepsLayout version1 (now sheet) × (i < length (entriesOf version1 (now sheet))) ⌝ }
+    ensures { λ r. ⌜ entryOf r ≡ getD (entriesOf version1 (now (sheet .entry))) i [] ⌝ }
+{
+    let at = before_entry(i).0;
+    Amendment {
+        number: words::word_at(sheet, Words(at)),
+        word: words::word_at(sheet, Words(at + 1)),
+        old: words::word_at(sheet, Words(at + 2)),
+        new: words::word_at(sheet, Words(at + 3)),
+    }
+}
+
+// Puts a number behind the mark and the version.
+fn put_count(sheet: &mut [u8], count: u16)
+    requires { ⌜ 8 ≤ length (now sheet) ⌝ }
+    ensures { λ _. ⌜ now (sheet .exit) ≡ sets (now (sheet .entry)) 5 (bytesOf (count ∷ [])) ⌝ }
+{
+    sheet[5] = (count / 256) as u8;
+    sheet[6] = (count % 256) as u8;
+}
+
+// Puts four numbers in place of entry `i`.
+fn put_numbers(sheet: &mut [u8], i: u16, e: Amendment)
+    requires { ⌜ (i < 64) × (length (now sheet) ≡ sheetBytes version1) ⌝ }
+    ensures { λ _. ⌜ now (sheet .exit) ≡ sets (now (sheet .entry)) (8 + bytesOfWords (i * 4)) (bytesOf (entryOf e)) ⌝ }
+{
+    let at = before_entry(i).0;
+    words::put_word(sheet, Words(at), e.number);
+    words::put_word(sheet, Words(at + 1), e.word);
+    words::put_word(sheet, Words(at + 2), e.old);
+    words::put_word(sheet, Words(at + 3), e.new);
+}
+
+// Adds an entry after the `count` that stand.
+pub fn add_entry(sheet: &mut [u8], count: u16, e: Amendment)
+    requires { ⌜ KeepsLayout version1 (now sheet) × (count ≡ length (entriesOf version1 (now sheet))) × (count < 64) ⌝ }
+    ensures { λ _. ⌜ now (sheet .exit) ≡ sheetOf version1 (entriesOf version1 (now (sheet .entry)) ++ entryOf e ∷ []) ⌝ }
+{
+    put_numbers(sheet, count, e);
+    put_count(sheet, count + 1);
+}
+
+// Clears the last of the entries, with `left` before it.
+pub fn clear_last(sheet: &mut [u8], left: u16)
+    requires { ⌜ KeepsLayout version1 (now sheet) × (left + 1 ≡ length (entriesOf version1 (now sheet))) ⌝ }
+    ensures { λ _. ⌜ now (sheet .exit) ≡ sheetOf version1 (take left (entriesOf version1 (now (sheet .entry)))) ⌝ }
+{
+    let none = Amendment {
+        number: 0,
+        word: 0,
+        old: 0,
+        new: 0,
+    };
+    put_numbers(sheet, left, none);
+    put_count(sheet, left);
+}
