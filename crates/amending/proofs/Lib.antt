@@ -1,1 +1,4 @@
 pub mod Patched
+pub mod Located
+pub mod Steps
+pub mod Outcome

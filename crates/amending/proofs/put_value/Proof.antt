@@ -1,0 +1,46 @@
+use Rattle.units.specs.Units.{bytesOfWords}
+use Rattle.words.specs.Words.{bytesOf}
+use mathlib.Core.Path.{_≡_, ap, ap₂, _∙_}
+use mathlib.Core.List.{List, [], _∷_}
+use Prim.Native.Nat.{ℕ, _-_}
+use lib.Bits.{bitXor}
+use lib.Seq.{sets}
+use denote.Ref.{now}
+use native.Mathlib.Omega.{arith}
+use Rattle.words.proofs.Laws.{length-wordsOf}
+use borrow.Author.Needs.{needs}
+use Rattle.amending.proofs.put_value.Statement.{statement}
+use Rattle.amending.proofs.put_value.Tie as tie
+
+count-requires : tie.Need-count-requires
+count-requires c κs = search needs
+
+sub-last : tie.Need-sub-last
+sub-last c = search needs
+
+word-at-requires : tie.Need-word-at-requires
+word-at-requires c κs = search needs
+
+put-word-requires : tie.Need-put-word-requires
+put-word-requires c κs = search needs
+
+put-word-requires-2 : tie.Need-put-word-requires-2
+put-word-requires-2 c κs = omega (arith, c .before .before .before .before .before .before .before .before .count .ensures, length-wordsOf (now (c .before .before .before .before .before .before .before .before .before .before .before .args .block)), length-wordsOf (c .before .before .before .put-word .last .0), c .before .before .before .put-word .kept .0, c .before .before .before .before .before .before .before .before .before .before .before .pre)
+
+same-length : tie.Need-same-length
+same-length c = search needs
+
+returns : tie.Need-returns
+returns c = let a = c .before .before .before .before .before .before .before .before .before .before .before .before .before .before .args in c .before .before .put-word2 .ensures ∙ rw (c .before .before .before .before .before .before .before .before .word-at .ensures, c .before .before .before .before .before .before .put-word .ensures, c .before .before .before .before .before .before .before .before .before .before .before .count .ensures)
+
+pub put-value-spec : {M : Type 1} → statement M
+put-value-spec =
+    tie.close
+    (tie.spec
+    count-requires
+    sub-last
+    word-at-requires
+    put-word-requires
+    put-word-requires-2
+    same-length
+    returns)
