@@ -196,25 +196,13 @@ fn refusal_numbers(r: Refusal) -> Answer
 {
     match r {
         Refusal::Block(b) => block::refusal_numbers(b),
-        Refusal::Layout => row(40, 0),
-        Refusal::NoRecord => row(41, 0),
-        Refusal::NoValue => row(42, 0),
-        Refusal::Differs(found) => row(43, found),
-        Refusal::Full => row(44, 0),
-        Refusal::Empty => row(45, 0),
-        Refusal::NotStanding => row(46, 0),
-    }
-}
-
-// An answer with no b and no c.
-fn row(n: u8, a: u16) -> Answer
-    ensures { λ r. ⌜ (r ≡ answer n a 0 0) × (r .a < 65536) ⌝ }
-{
-    Answer {
-        n,
-        a: a as u32,
-        b: 0,
-        c: 0,
+        Refusal::Layout => sheet::row(40, 0),
+        Refusal::NoRecord => sheet::row(41, 0),
+        Refusal::NoValue => sheet::row(42, 0),
+        Refusal::Differs(found) => sheet::row(43, found),
+        Refusal::Full => sheet::row(44, 0),
+        Refusal::Empty => sheet::row(45, 0),
+        Refusal::NotStanding => sheet::row(46, 0),
     }
 }
 
@@ -223,7 +211,7 @@ pub fn numbers(a: Amended) -> Answer
     ensures { λ r. ⌜ (r ≡ answered (amendedOf a)) × (r .a < 65536) ⌝ }
 {
     match a {
-        Amended::Standing(count) => row(0, count),
+        Amended::Standing(count) => sheet::row(0, count),
         Amended::Refused(r) => refusal_numbers(r),
     }
 }

@@ -5,6 +5,7 @@ use Rattle.units.specs.declared.Answer.{Answer}
 use Rattle.units.specs.Answers.{answered, packedOf}
 use Rattle.words.specs.Outcomes.{Written}
 use Rattle.block.specs.Judging.{judged}
+use Rattle.amending.specs.Amending.{Amended}
 use Rattle.prefix.specs.Table.{prefixOf, answerOf}
 
 -- "Judge a binary block": the number of records, or the first refusal
@@ -27,3 +28,17 @@ returned number out = record { number = number; out = out }
 -- "A C call returns them as one unsigned 64-bit number"
 abbrev pub converted : Written → Returned
 converted w = returned (packedOf (w .answer)) (w .out)
+
+-- what a call on a block and its sheet returns to C, and both buffers as they are then
+pub record ReturnedBoth : Type 0 where
+  pub number : ℕ
+  pub block : List ℕ
+  pub sheet : List ℕ
+
+-- a number returned and both buffers as they are then
+abbrev pub returnedBoth : ℕ → List ℕ → List ℕ → ReturnedBoth
+returnedBoth number block sheet = record { number = number; block = block; sheet = sheet }
+
+-- "A C call returns them as one unsigned 64-bit number", here too
+abbrev pub amendedBoth : Amended → ReturnedBoth
+amendedBoth a = returnedBoth (packedOf (a .answer)) (a .block) (a .sheet)

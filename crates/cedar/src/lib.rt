@@ -1,9 +1,13 @@
 // The calls for C, and nothing else: each returns its answer's four numbers as one.
+use sheet::Amendment;
 ghost use mathlib.Core.Path.{_≡_};
+ghost use mathlib.Core.List.{[], _∷_};
 ghost use Rattle.units.specs.Answers.{packedOf};
-ghost use Rattle.cedar.specs.Calls.{judgeAnswer, prefixAnswer, returned, converted};
+ghost use Rattle.cedar.specs.Calls.{judgeAnswer, prefixAnswer, returned, converted, returnedBoth, amendedBoth};
 ghost use Rattle.lines.specs.Text.{toLines};
 ghost use Rattle.text.specs.Block.{toBlock};
+ghost use Rattle.sheet.specs.Sheets.{version1, started};
+ghost use Rattle.amending.specs.Amending.{amend, undo};
 
 // uint64_t cedar_judge(const uint8_t *block, size_t length);
 #[no_mangle]
@@ -39,4 +43,44 @@ pub extern "C" fn cedar_to_block(text: &[u8], block: &mut [u8]) -> u64
 {
     let blocked = text::to_block(text, block);
     units::pack(text::numbers(blocked))
+}
+
+// uint64_t cedar_sheet_start(uint8_t *sheet, size_t length);
+#[no_mangle]
+pub extern "C" fn cedar_sheet_start(sheet: &mut [u8]) -> u64
+    ensures { λ r. ⌜ returned r (now (sheet .exit)) ≡ converted (started version1 (now (sheet .entry))) ⌝ }
+{
+    let opened = sheet::start(sheet);
+    units::pack(sheet::numbers(opened))
+}
+
+// uint64_t cedar_amend(uint8_t *block, size_t block_length, uint8_t *sheet, size_t sheet_length, uint16_t record, uint16_t word, uint16_t old_value, uint16_t new_value);
+#[no_mangle]
+pub extern "C" fn cedar_amend(
+    block: &mut [u8],
+    sheet: &mut [u8],
+    number: u16,
+    word: u16,
+    old: u16,
+    new: u16,
+) -> u64
+    ensures { λ r. ⌜ returnedBoth r (now (block .exit)) (now (sheet .exit)) ≡ amendedBoth (amend version1 (number ∷ word ∷ old ∷ new ∷ []) (now (block .entry)) (now (sheet .entry))) ⌝ }
+{
+    let e = Amendment {
+        number,
+        word,
+        old,
+        new,
+    };
+    let amended = amending::amend(block, sheet, e);
+    units::pack(amending::numbers(amended))
+}
+
+// uint64_t cedar_undo(uint8_t *block, size_t block_length, uint8_t *sheet, size_t sheet_length);
+#[no_mangle]
+pub extern "C" fn cedar_undo(block: &mut [u8], sheet: &mut [u8]) -> u64
+    ensures { λ r. ⌜ returnedBoth r (now (block .exit)) (now (sheet .exit)) ≡ amendedBoth (undo version1 (now (block .entry)) (now (sheet .entry))) ⌝ }
+{
+    let amended = amending::undo(block, sheet);
+    units::pack(amending::numbers(amended))
 }

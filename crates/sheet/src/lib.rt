@@ -9,7 +9,7 @@ ghost use Prim.Native.Nat.{_+_, _-_, _*_, _≤_, _<_};
 ghost use lib.ListN.{length, getD, take, drop, replicate};
 ghost use lib.Seq.{sets};
 ghost use Rattle.units.specs.Units.{bytesOfWords};
-ghost use Rattle.units.specs.Answers.{answered};
+ghost use Rattle.units.specs.Answers.{answer, answered};
 ghost use Rattle.words.specs.Words.{wordsOf, bytesOf};
 ghost use Rattle.words.specs.Outcomes.{leaves};
 ghost use Rattle.sheet.specs.Sheets.{version1, sheetBytes, sheetOf, numberAt, numbersIn, entriesOf, zeros, wrongMark, broken, opened, started};
@@ -108,6 +108,28 @@ pub fn open(sheet: &[u8]) -> Opened
         return Opened::Broken;
     }
     Opened::Standing(number_at(sheet, Bytes(5)))
+}
+
+// The answer of row n, with its a.
+pub fn row(n: u8, a: u16) -> Answer
+    ensures { λ r. ⌜ (r ≡ answer n a 0 0) × (r .a < 65536) ⌝ }
+{
+    Answer {
+        n,
+        a: a as u32,
+        b: 0,
+        c: 0,
+    }
+}
+
+// The four numbers of what is found of a sheet.
+pub fn numbers(o: Opened) -> Answer
+    ensures { λ r. ⌜ (r ≡ answered (openedOf o)) × (r .a < 65536) ⌝ }
+{
+    match o {
+        Opened::Standing(count) => row(0, count),
+        Opened::Broken => row(40, 0),
+    }
 }
 
 // Puts zeros in place of all bytes.
