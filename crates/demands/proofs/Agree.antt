@@ -6,7 +6,7 @@ use Rattle.units.specs.Choice.{if_then_else_}
 use Rattle.units.specs.declared.Answer.{Answer}
 use Rattle.units.specs.declared.Lines.{Lines}
 use Rattle.units.specs.declared.Bytes.{Bytes}
-use Rattle.units.specs.Answers.{Verdict, passed, refused}
+use Rattle.units.specs.Answers.{Verdict, passed, refused, answered}
 use Rattle.record.specs.declared.Fault.the-variants.{Short, Kind, Total, NotZero, Card, Counts}
 use Rattle.block.specs.declared.Judged.{Judged}
 use Rattle.block.specs.declared.Judged.the-variants.{Records, Refused}
@@ -28,7 +28,17 @@ use Rattle.text.specs.declared.Blocked.{Blocked}
 use Rattle.text.specs.declared.Blocked.the-variants.{Block}
 use Rattle.text.specs.declared.Blocked.the-variants as blocked
 use Rattle.text.specs.Cases.{contentOf, blockedOf}
-use Rattle.demands.specs.Agree.{JudgeAgrees, CedarJudgeAgrees, StepAgrees, FindAgrees, PrefixAgrees, CedarPrefixAgrees, LinesAgree, CedarLinesAgree, ContentAgrees, BlockAgrees, CedarBlockAgrees}
+use Rattle.sheet.specs.declared.Opened.{Opened}
+use Rattle.sheet.specs.declared.Opened.the-variants as sheet
+use Rattle.sheet.specs.Cases.{openedOf}
+use Rattle.amending.specs.declared.Amended.{Amended}
+use Rattle.amending.specs.declared.Amended.the-variants as amending
+use Rattle.amending.specs.declared.Refusal.the-variants as rows
+use Rattle.amending.specs.Cases.{amendedOf}
+use Rattle.amending.specs.Amending as outcome
+use Rattle.demands.specs.Agree.{JudgeAgrees, CedarJudgeAgrees, StepAgrees, FindAgrees, PrefixAgrees, CedarPrefixAgrees}
+use Rattle.demands.specs.Agree.{LinesAgree, CedarLinesAgree, ContentAgrees, BlockAgrees, CedarBlockAgrees}
+use Rattle.demands.specs.Agree.{OpenAgrees, StartAgrees, BothAgree, AmendAgrees, UndoAgrees, CedarStartAgrees, CedarBothAgree, CedarAmendAgrees, CedarUndoAgrees}
 
 -- the case that a refusal's numbers tell
 refusalCase : Answer → Refusal
@@ -166,3 +176,73 @@ block-agrees text block r s b c p q = let e = same p q in (sym (blocked-back r) 
 
 pub cedar-block-agrees : CedarBlockAgrees
 cedar-block-agrees text block r s b c p q = let e = same p q in (ap (λ w. w .number) e, ap (λ w. w .out) e)
+
+-- the case that the numbers of a sheet tell
+openedCase : Answer → Opened
+openedCase r = if eqb (r .n) 0 then sheet.Standing (r .a) else sheet.Broken
+
+opened-back : (o : Opened) → openedCase (answered (openedOf o)) ≡ o
+unfolding openedCase
+opened-back (sheet.Standing count) = refl
+opened-back sheet.Broken = refl
+
+pub open-agrees : OpenAgrees
+open-agrees sheet r s p q = sym (opened-back r) ∙ ap (λ v. openedCase (answered v)) (same p q) ∙ opened-back s
+
+pub start-agrees : StartAgrees
+start-agrees sheet r s t u p q = let e = same p q in (sym (opened-back r) ∙ ap (λ w. openedCase (w .answer)) e ∙ opened-back s, ap (λ w. w .out) e)
+
+pub cedar-start-agrees : CedarStartAgrees
+cedar-start-agrees sheet r s t u p q = let e = same p q in (ap (λ w. w .number) e, ap (λ w. w .out) e)
+
+-- the case that the numbers of amend and undo tell
+amendedCase : Answer → Amended
+amendedCase r =
+    if eqb (r .n) 0 then amending.Standing (r .a)
+    else if eqb (r .n) 40 then amending.Refused rows.Layout
+    else if eqb (r .n) 41 then amending.Refused rows.NoRecord
+    else if eqb (r .n) 42 then amending.Refused rows.NoValue
+    else if eqb (r .n) 43 then amending.Refused (rows.Differs (r .a))
+    else if eqb (r .n) 44 then amending.Refused rows.Full
+    else if eqb (r .n) 45 then amending.Refused rows.Empty
+    else if eqb (r .n) 46 then amending.Refused rows.NotStanding
+    else amending.Refused (rows.Block (refusalCase r))
+
+amended-back : (a : Amended) → amendedCase (answered (amendedOf a)) ≡ a
+unfolding amendedCase refusalCase
+amended-back (amending.Standing count) = refl
+amended-back (amending.Refused rows.Layout) = refl
+amended-back (amending.Refused rows.NoRecord) = refl
+amended-back (amending.Refused rows.NoValue) = refl
+amended-back (amending.Refused (rows.Differs found)) = refl
+amended-back (amending.Refused rows.Full) = refl
+amended-back (amending.Refused rows.Empty) = refl
+amended-back (amending.Refused rows.NotStanding) = refl
+amended-back (amending.Refused (rows.Block Size)) = refl
+amended-back (amending.Refused (rows.Block WordCount)) = refl
+amended-back (amending.Refused (rows.Block (Checksum bits))) = refl
+amended-back (amending.Refused (rows.Block (Record (Short k)))) = refl
+amended-back (amending.Refused (rows.Block (Record (Kind k)))) = refl
+amended-back (amending.Refused (rows.Block (Record (Total k)))) = refl
+amended-back (amending.Refused (rows.Block (Record (NotZero k w)))) = refl
+amended-back (amending.Refused (rows.Block (Record (Card k w)))) = refl
+amended-back (amending.Refused (rows.Block (Record (Counts k w)))) = refl
+
+both-agree : (o : outcome.Amended) → BothAgree o
+both-agree o r s b c x y p q =
+    let e = same p q in (sym (amended-back r) ∙ ap (λ a. amendedCase (a .answer)) e ∙ amended-back s, ap (λ a. a .block) e, ap (λ a. a .sheet) e)
+
+pub amend-agrees : AmendAgrees
+amend-agrees e block sheet = both-agree _
+
+pub undo-agrees : UndoAgrees
+undo-agrees block sheet = both-agree _
+
+cedar-both-agree : (o : outcome.Amended) → CedarBothAgree o
+cedar-both-agree o r s b c x y p q = let e = same p q in (ap (λ a. a .number) e, ap (λ a. a .block) e, ap (λ a. a .sheet) e)
+
+pub cedar-amend-agrees : CedarAmendAgrees
+cedar-amend-agrees e block sheet = cedar-both-agree _
+
+pub cedar-undo-agrees : CedarUndoAgrees
+cedar-undo-agrees block sheet = cedar-both-agree _

@@ -2,7 +2,7 @@
 use mathlib.Core.Path.{_≡_}
 use mathlib.Core.List.{List}
 use Prim.Native.Nat.{ℕ}
-use Rattle.units.specs.Answers.{packedOf}
+use Rattle.units.specs.Answers.{answered, packedOf}
 use Rattle.block.specs.declared.Judged.{Judged}
 use Rattle.block.specs.Cases.{judgedOf}
 use Rattle.block.specs.Judging.{judged}
@@ -17,7 +17,14 @@ use Rattle.text.specs.declared.Content.{Content}
 use Rattle.text.specs.declared.Blocked.{Blocked}
 use Rattle.text.specs.Cases.{contentOf, blockedOf}
 use Rattle.text.specs.Block.{wordsIn, toBlock}
-use Rattle.cedar.specs.Calls.{judgeAnswer, prefixAnswer, returned, converted}
+use Rattle.sheet.specs.declared.Opened.{Opened}
+use Rattle.sheet.specs.Cases.{openedOf}
+use Rattle.sheet.specs.Sheets.{Entry, version1, opened, started}
+use Rattle.amending.specs.declared.Amended.{Amended}
+use Rattle.amending.specs.Cases.{amendedOf}
+use Rattle.amending.specs.Amending as outcome
+use Rattle.amending.specs.Amending.{buffers, amend, undo}
+use Rattle.cedar.specs.Calls.{judgeAnswer, prefixAnswer, returned, converted, returnedBoth, amendedBoth}
 use Rattle.prefix.specs.declared.Letters.{Letters}
 use Rattle.prefix.specs.Table.{prefixOf}
 
@@ -71,3 +78,47 @@ abbrev pub CedarBlockAgrees : Type 0
 CedarBlockAgrees =
     (text block : List ℕ) (r s : ℕ) (b c : List ℕ) → returned r b ≡ converted (toBlock text block) → returned s c ≡ converted (toBlock text block) →
     (r ≡ s) × (b ≡ c)
+
+-- `sheet::open`
+abbrev pub OpenAgrees : Type 0
+OpenAgrees = (sheet : List ℕ) (r s : Opened) → openedOf r ≡ opened version1 sheet → openedOf s ≡ opened version1 sheet → r ≡ s
+
+-- `sheet::start`: the answer's case and every byte of the sheet
+abbrev pub StartAgrees : Type 0
+StartAgrees =
+    (sheet : List ℕ) (r s : Opened) (t u : List ℕ) → leaves (answered (openedOf r)) t ≡ started version1 sheet → leaves (answered (openedOf s)) u ≡ started version1 sheet →
+    (r ≡ s) × (t ≡ u)
+
+-- two outcomes of a call on a block and its sheet: the answer's case and every byte of both buffers
+abbrev pub BothAgree : outcome.Amended → Type 0
+BothAgree o =
+    (r s : Amended) (b c x y : List ℕ) → buffers (answered (amendedOf r)) b x ≡ o → buffers (answered (amendedOf s)) c y ≡ o →
+    (r ≡ s) × (b ≡ c) × (x ≡ y)
+
+-- `amending::amend`
+abbrev pub AmendAgrees : Type 0
+AmendAgrees = (e : Entry) (block sheet : List ℕ) → BothAgree (amend version1 e block sheet)
+
+-- `amending::undo`
+abbrev pub UndoAgrees : Type 0
+UndoAgrees = (block sheet : List ℕ) → BothAgree (undo version1 block sheet)
+
+-- `cedar_sheet_start`
+abbrev pub CedarStartAgrees : Type 0
+CedarStartAgrees =
+    (sheet : List ℕ) (r s : ℕ) (t u : List ℕ) → returned r t ≡ converted (started version1 sheet) → returned s u ≡ converted (started version1 sheet) →
+    (r ≡ s) × (t ≡ u)
+
+-- two outcomes of such a call from C
+abbrev pub CedarBothAgree : outcome.Amended → Type 0
+CedarBothAgree o =
+    (r s : ℕ) (b c x y : List ℕ) → returnedBoth r b x ≡ amendedBoth o → returnedBoth s c y ≡ amendedBoth o →
+    (r ≡ s) × (b ≡ c) × (x ≡ y)
+
+-- `cedar_amend`
+abbrev pub CedarAmendAgrees : Type 0
+CedarAmendAgrees = (e : Entry) (block sheet : List ℕ) → CedarBothAgree (amend version1 e block sheet)
+
+-- `cedar_undo`
+abbrev pub CedarUndoAgrees : Type 0
+CedarUndoAgrees = (block sheet : List ℕ) → CedarBothAgree (undo version1 block sheet)

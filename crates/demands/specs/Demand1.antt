@@ -8,6 +8,8 @@ use Rattle.units.specs.Answers.{packedOf, takenApart}
 use Rattle.words.specs.Words.{Below}
 use Rattle.lines.specs.Text.{toLines}
 use Rattle.text.specs.Block.{toBlock}
+use Rattle.sheet.specs.Sheets.{Entry, version1, started}
+use Rattle.amending.specs.Amending.{Amended, amend, undo}
 use Rattle.cedar.specs.Calls.{judgeAnswer, prefixAnswer}
 
 -- the four numbers that a C caller takes out of the one it was given
@@ -36,3 +38,24 @@ BlockAnswers =
     ((toBlock text block .answer .n ≡ 0) ⊎ ((20 ≤ toBlock text block .answer .n) × (toBlock text block .answer .n ≤ 30)))
     × Kept (toBlock text block .answer)
     × ((toBlock text block .answer .n ≡ 0 → ⊥) → toBlock text block .out ≡ block)
+
+-- "sheet not 520 bytes (all that starting tests)"
+abbrev pub StartAnswers : Type 0
+StartAnswers =
+    (sheet : List ℕ) →
+    ((started version1 sheet .answer .n ≡ 0) ⊎ (started version1 sheet .answer .n ≡ 40)) × Kept (started version1 sheet .answer)
+    × ((started version1 sheet .answer .n ≡ 0 → ⊥) → started version1 sheet .out ≡ sheet)
+
+-- the block's numbers, 0 to 9, or rows 40 to 46; "Every refusal leaves every buffer untouched"
+abbrev pub BothAnswer : List ℕ → List ℕ → Amended → Type 0
+BothAnswer block sheet o =
+    ((o .answer .n ≤ 9) ⊎ ((40 ≤ o .answer .n) × (o .answer .n ≤ 46))) × Kept (o .answer)
+    × ((o .answer .n ≡ 0 → ⊥) → (o .block ≡ block) × (o .sheet ≡ sheet))
+
+-- "Amend: block, 40, 44, 41, 42, 43"
+abbrev pub AmendAnswers : Type 0
+AmendAnswers = (e : Entry) (block sheet : List ℕ) → Below 256 block → Below 256 sheet → BothAnswer block sheet (amend version1 e block sheet)
+
+-- "Undo: block, 40, 45, 46"
+abbrev pub UndoAnswers : Type 0
+UndoAnswers = (block sheet : List ℕ) → Below 256 block → Below 256 sheet → BothAnswer block sheet (undo version1 block sheet)
