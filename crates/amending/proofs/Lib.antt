@@ -1,3 +1,4 @@
+pub mod Numbered
 pub mod Patched
 pub mod Located
 pub mod Steps

@@ -5,16 +5,16 @@ use mathlib.Core.Logic.{_⊎_, inl, inr}
 use mathlib.Core.List.{List, [], _∷_, _++_, append-assoc}
 use Prim.Native.Nat.{ℕ, zero, suc, _+_, _-_, _≤_, _<_}
 use native.Mathlib.Omega.{arith}
-use borrow.Author.Tests.{eq-eqb, ne-eqb, lt-ltb, le-ltb}
+use borrow.Author.Tests.{eq-eqb, ne-eqb, lt-ltb}
 use lib.Dec.{eqb, ltb}
 use lib.ListN.{length, getD, take, drop, length-append}
-use lib.Seq.{slice, split-at, drop-cons, take-append-seam, drop-append-seam, take-append-add}
+use lib.Seq.{slice, split-at, take-append-seam, drop-append-seam, take-append-add}
 use Rattle.units.specs.Choice.{if_then_else_}
 use Rattle.units.specs.Answers.{answer, Verdict, passed, refused}
 use Rattle.units.specs.declared.Words.{Words}
 use Rattle.words.specs.Words.{wordsOf, joined, framed}
 use Rattle.words.proofs.Laws.{joined-append}
-use Rattle.words.proofs.Lists.{all-drop}
+use Rattle.words.proofs.Lists.{all-at}
 use Rattle.record.specs.Rules.{RecordOk}
 use Rattle.record.specs.Values.{isValue}
 use Rattle.block.specs.Steps.{placed}
@@ -22,6 +22,7 @@ use Rattle.block.specs.Rules.{IsBlock}
 use Rattle.block.specs.declared.Place.the-variants.{Record, NoMore}
 use Rattle.block.proofs.Exact.{ok-long, words-are}
 use Rattle.amending.specs.Places.{recordIn, noRecord, valuePlace}
+use Rattle.amending.proofs.Numbered.{record-is}
 
 -- a part between others
 slice-part : (front part back : List ℕ) → slice (length front) (length front + length part) (front ++ (part ++ back)) ≡ part
@@ -91,7 +92,7 @@ pub record Located (b : List ℕ) (rs : List (List ℕ)) (n place size : ℕ) : 
   pub within : place + size < length (wordsOf b)
 
 pub located : (b : List ℕ) (rs : List (List ℕ)) → IsBlock b rs → (n : ℕ) (place size : Words) → placed rs 1 n ≡ Record place size → Located b rs n (place .0) (size .0)
-unfolding noRecord framed joined
+unfolding framed joined
 located b rs g n place size e =
     let p = placed-some rs 1 n place size e in
     let i = n - 1 in
@@ -99,17 +100,17 @@ located b rs g n place size e =
     let before = joined (take i rs) in
     let inside : i < length rs = omega (arith, p .least, p .most) in
     let after = joined (drop (suc i) rs) in
-    let ok = rw (drop-cons rs i [] inside) at (all-drop RecordOk i rs (g .each)) in
+    let ok = all-at RecordOk rs i [] inside (g .each) in
     let parts : joined rs ≡ before ++ (r ++ after) = ap joined (split-at rs i [] inside) ∙ joined-append (take i rs) (r ∷ drop (suc i) rs) in
     let x = checksum b rs g in
     let ws : wordsOf b ≡ ((length (joined rs) + 2) ∷ before) ++ (r ++ (after ++ (x .0 ∷ []))) =
     x .1 ∙ ap (λ l. (length (joined rs) + 2) ∷ l) (ap (λ l. l ++ (x .0 ∷ [])) parts ∙ append-assoc before (r ++ after) _ ∙ ap (λ l. before ++ l) (append-assoc r after _)) in
     let front : place .0 ≡ length ((length (joined rs) + 2) ∷ before) = omega (arith, p .here) in
     record {
-      there = simp (ne-eqb n 0 (omega (arith, p .least)), le-ltb (length rs) n (p .most));
+      there = record-is rs n (p .least) (p .most);
       here = p .here;
       words = rw (ws, front, p .size-is) (slice-part ((length (joined rs) + 2) ∷ before) r (after ++ (x .0 ∷ [])));
-      long = omega (arith, p .size-is, ok-long r (ok .0));
+      long = omega (arith, p .size-is, ok-long r ok);
       within = omega (arith, p .here, p .size-is, ap length ws, length-append before (r ++ (after ++ (x .0 ∷ []))), length-append r (after ++ (x .0 ∷ [])), length-append after (x .0 ∷ []));
     }
   where

@@ -21,7 +21,7 @@ use Rattle.sheet.proofs.Sheets.{sheet-opened}
 use Rattle.amending.specs.Places.{recordNumber, wordNumber, oldValue, newValue, found, valuePlace, withValue}
 use Rattle.amending.specs.Amending.{Amended, Standing, buffers, standing, amendable, undoable, lastOf, othersOf, leaving, onBoth}
 use Rattle.amending.proofs.Patched.{NamesValue, names-value, value-within, value-found, value-put}
-use Rattle.amending.proofs.Steps.{amend-differs, amend-passes, undo-differs, undo-passes}
+use Rattle.amending.proofs.Steps.{amend-differs, amend-passes, undo-differs, undo-standing, it-stands}
 
 -- what the code stores for a value and for the checksum
 abbrev patched : List ℕ → ℕ → ℕ → ℕ → List ℕ
@@ -45,34 +45,34 @@ module _ (b s : List ℕ) (bytes : Below 256 b) (accepted : Accepted b) (e : Ent
   spot-within = value-within b (recordsOf b) good e at named
 
   module _ (w : ℕ) (stands : w ≡ getD (wordsOf b) at 0) where
-    it-stands : w ≡ found (recordsOf b) e
-    it-stands = stands ∙ value-found b (recordsOf b) good e at named
+    stands-found : w ≡ found (recordsOf b) e
+    stands-found = stands ∙ value-found b (recordsOf b) good e at named
 
     pub amend-other : (oldValue e ≡ w → ⊥) → length (entriesOf version1 s) < 64
         → buffers (answer 43 w 0 0) b s ≡ leaving version1 b s (amendable version1 e (standing (recordsOf b) (entriesOf version1 s)))
     amend-other n room =
-        let q = amend-differs version1 e (recordsOf b) (entriesOf version1 s) room at named (λ z. n (z ∙ sym it-stands)) in
-        refusal-leaves b s (answer 43 w 0 0) _ (q ∙ ap (λ x. refused (answer 43 x 0 0)) (sym it-stands))
+        let q = amend-differs version1 e (recordsOf b) (entriesOf version1 s) room (named .there) (named .value) (λ z. n (z ∙ sym stands-found)) in
+        refusal-leaves b s (answer 43 w 0 0) _ (q ∙ ap (λ x. refused (answer 43 x 0 0)) (sym stands-found))
 
     pub amend-done : {b′ s′ : List ℕ} (count : ℕ) → oldValue e ≡ w → count ≡ length (entriesOf version1 s) → count < 64
         → b′ ≡ patched b at (oldValue e) (newValue e) → s′ ≡ sheetOf version1 (entriesOf version1 s ++ e ∷ [])
         → buffers (answer 0 (count + 1) 0 0) b′ s′ ≡ leaving version1 b s (amendable version1 e (standing (recordsOf b) (entriesOf version1 s)))
     amend-done count o n room eb es =
-        let q : oldValue e ≡ found (recordsOf b) e = o ∙ it-stands in
+        let q : oldValue e ≡ found (recordsOf b) e = o ∙ stands-found in
         let k : count + 1 ≡ length (entriesOf version1 s ++ e ∷ []) = omega (arith, n, length-append (entriesOf version1 s) (e ∷ [])) in
-        rw (amend-passes version1 e (recordsOf b) (entriesOf version1 s) (omega arith) at named q, eb, es, q, value-put b (recordsOf b) good e at named (newValue e), k)
+        rw (amend-passes version1 e (recordsOf b) (entriesOf version1 s) (omega arith) (named .there) (named .value) q, eb, es, q, value-put b (recordsOf b) good e at named (newValue e), k)
 
     module _ (last : lastOf (entriesOf version1 s) ≡ e) (left : ℕ) (n : left + 1 ≡ length (entriesOf version1 s)) where
       pub undo-other : (newValue e ≡ w → ⊥) → buffers (answer 46 0 0 0) b s ≡ leaving version1 b s (undoable (standing (recordsOf b) (entriesOf version1 s)))
-      undo-other d = refusal-leaves b s (answer 46 0 0 0) _ (undo-differs (recordsOf b) (entriesOf version1 s) (omega arith) at (rw last named) (rw last (λ z. d (z ∙ sym it-stands))))
+      undo-other d = refusal-leaves b s (answer 46 0 0 0) _ (undo-differs (recordsOf b) (entriesOf version1 s) (omega arith) at (rw last named) (rw last (λ z. d (z ∙ sym stands-found))))
 
       pub undo-done : {b′ s′ : List ℕ} → newValue e ≡ w → b′ ≡ patched b at (newValue e) (oldValue e) → s′ ≡ sheetOf version1 (take left (entriesOf version1 s))
           → buffers (answer 0 left 0 0) b′ s′ ≡ leaving version1 b s (undoable (standing (recordsOf b) (entriesOf version1 s)))
       undo-done o eb es =
-          let q : newValue e ≡ found (recordsOf b) e = o ∙ it-stands in
+          let q : newValue e ≡ found (recordsOf b) e = o ∙ stands-found in
           let l : length (entriesOf version1 s) - 1 ≡ left = omega (arith, n) in
           let k : length (take left (entriesOf version1 s)) ≡ left = length-take-le left (entriesOf version1 s) (omega (arith, n)) in
-          rw (undo-passes (recordsOf b) (entriesOf version1 s) (omega arith) at (rw last named) (rw last q), last, l, eb, es, q, value-put b (recordsOf b) good e at named (oldValue e), k)
+          rw (undo-standing (recordsOf b) (entriesOf version1 s) (omega arith) (rw last (it-stands (recordsOf b) e (named .there) (named .value) q)), last, l, eb, es, q, value-put b (recordsOf b) good e at named (oldValue e), k)
 
 -- ---- what the look at block and sheet has found
 

@@ -4,16 +4,15 @@ use mathlib.Core.Bool.{true, false, not}
 use mathlib.Core.List.{List, [], _∷_, _++_}
 use Prim.Native.Nat.{ℕ, suc, _+_, _-_, _<_}
 use native.Mathlib.Omega.{arith}
-use borrow.Author.Tests.{eqb-false, ltb-false, not-false}
+use borrow.Author.Tests.{not-false}
 use lib.Bits.{bitXor}
-use lib.Dec.{eqb}
 use lib.ListN.{length, getD, take, set, length-set, List·getD-append}
-use lib.Seq.{sets, drop-cons, set-append-left, set-at, getD-append-seam}
+use lib.Seq.{sets, set-append-left, set-at, getD-append-seam}
 use Rattle.units.specs.Units.{bytesOfWords}
 use Rattle.units.specs.Answers.{passed}
-use Rattle.units.proofs.Verdicts.{else-passed, or-off}
+use Rattle.units.proofs.Verdicts.{else-passed}
 use Rattle.words.specs.Words.{wordsOf, bytesOf, xorAll, joined, framed}
-use Rattle.words.proofs.Lists.{all-drop}
+use Rattle.words.proofs.Lists.{all-at}
 use Rattle.words.proofs.Joined.{joined-room, getD-joined, set-joined}
 use Rattle.words.proofs.Stores.{bytes-sets}
 use Rattle.words.proofs.Xor.{fold-patched}
@@ -24,6 +23,7 @@ use Rattle.block.specs.Rules.{blockOf, IsBlock}
 use Rattle.block.proofs.Exact.{frame-of, words-are}
 use Rattle.sheet.specs.Sheets.{Entry}
 use Rattle.amending.specs.Places.{recordNumber, wordNumber, recordIn, noRecord, found, valuePlace, withValue}
+use Rattle.amending.proofs.Numbered.{is-record}
 
 -- ---- a word of a frame
 
@@ -60,20 +60,13 @@ names-value rs e at q =
     let c = else-passed (not (isValue (recordIn rs (recordNumber e)) (wordNumber e))) _ _ at (a .1) in
     record { there = a .0; value = not-false _ (c .0); place = cc (c .1) }
 
-record-there : (rs : List (List ℕ)) (n : ℕ) → noRecord rs n ≡ false → n - 1 < length rs
-unfolding noRecord
-record-there rs n h =
-    let o = or-off (eqb n 0) _ h in
-    omega (arith, eqb-false n 0 (o .0), ltb-false (length rs) n (o .1))
-
 module _ (b : List ℕ) (rs : List (List ℕ)) (g : IsBlock b rs) (e : Entry) (at : ℕ) (h : NamesValue rs e at) where
   there : recordNumber e - 1 < length rs
-  there = record-there rs (recordNumber e) (h .there)
+  there = let n = is-record rs (recordNumber e) (h .there) in omega (arith, n .0, n .1)
 
   stands-at : ValueAt (recordIn rs (recordNumber e)) (wordNumber e)
   stands-at =
-      let ok = rw (drop-cons rs (recordNumber e - 1) [] there) at (all-drop RecordOk (recordNumber e - 1) rs (g .each)) in
-      value-at (recordIn rs (recordNumber e)) (wordNumber e) (ok .0) (h .value)
+      value-at (recordIn rs (recordNumber e)) (wordNumber e) (all-at RecordOk rs (recordNumber e - 1) [] there (g .each)) (h .value)
 
   room : wordNumber e - 1 < length (recordIn rs (recordNumber e))
   room = omega (arith, stands-at)

@@ -50,14 +50,14 @@ module _ (y : Layout) (e : Entry) (rs : List (List ℕ)) (es : List Entry) where
         by (inl n) = simp (lt-leb (y .limit) (length es) room, n .0, n .1)
         by (inr n) = simp (lt-leb (y .limit) (length es) room, n .0, n .1, n .2)
 
-    module _ (at : ℕ) (h : NamesValue rs e at) where
+    module _ (there : noRecord rs (recordNumber e) ≡ false) (value : isValue (recordIn rs (recordNumber e)) (wordNumber e) ≡ true) where
       pub amend-differs : (oldValue e ≡ found rs e → ⊥) → amendable y e (standing rs es) ≡ refused (answer 43 (found rs e) 0 0)
       unfolding amendable
-      amend-differs n = simp (lt-leb (y .limit) (length es) room, h .there, h .value, ne-eqb (oldValue e) (found rs e) n)
+      amend-differs n = simp (lt-leb (y .limit) (length es) room, there, value, ne-eqb (oldValue e) (found rs e) n)
 
       pub amend-passes : oldValue e ≡ found rs e → amendable y e (standing rs es) ≡ passed (standing (withValue rs e (newValue e)) (es ++ e ∷ []))
       unfolding amendable
-      amend-passes q = simp (lt-leb (y .limit) (length es) room, h .there, h .value, eq-eqb (oldValue e) (found rs e) q)
+      amend-passes q = simp (lt-leb (y .limit) (length es) room, there, value, eq-eqb (oldValue e) (found rs e) q)
 
 -- ---- undo
 
@@ -68,23 +68,28 @@ module _ (rs : List (List ℕ)) (es : List Entry) where
 
   -- the last entry stands, or row 46
   module _ (some : 1 ≤ length es) where
-    stands-off : stands rs (lastOf es) ≡ false → undoable (standing rs es) ≡ refused (answer 46 0 0 0)
+    pub undo-standing : stands rs (lastOf es) ≡ true → undoable (standing rs es) ≡ passed (standing (withValue rs (lastOf es) (oldValue (lastOf es))) (othersOf es))
     unfolding undoable
-    stands-off q = simp (ne-eqb (length es) 0 (λ z. omega arith), q)
+    undo-standing q = simp (ne-eqb (length es) 0 (λ z. omega arith), q)
+
+    undo-not-standing : stands rs (lastOf es) ≡ false → undoable (standing rs es) ≡ refused (answer 46 0 0 0)
+    unfolding undoable
+    undo-not-standing q = simp (ne-eqb (length es) 0 (λ z. omega arith), q)
 
     pub undo-no-place : (r : Answer) → let e = lastOf es in valuePlace rs (recordNumber e) (wordNumber e) ≡ refused r → undoable (standing rs es) ≡ refused (answer 46 0 0 0)
     unfolding stands
-    undo-no-place r q = stands-off (by (no-place rs (recordNumber (lastOf es)) (wordNumber (lastOf es)) r q))
+    undo-no-place r q = undo-not-standing (by (no-place rs (recordNumber (lastOf es)) (wordNumber (lastOf es)) r q))
       where
         by : NoPlace rs (recordNumber (lastOf es)) (wordNumber (lastOf es)) r → stands rs (lastOf es) ≡ false
         by (inl n) = simp (n .0)
         by (inr n) = simp (n .0, n .1)
 
-    module _ (at : ℕ) (h : NamesValue rs (lastOf es) at) where
-      pub undo-differs : (newValue (lastOf es) ≡ found rs (lastOf es) → ⊥) → undoable (standing rs es) ≡ refused (answer 46 0 0 0)
-      unfolding stands
-      undo-differs n = stands-off (simp (h .there, h .value, ne-eqb (newValue (lastOf es)) (found rs (lastOf es)) n))
+    pub undo-differs : (at : ℕ) → NamesValue rs (lastOf es) at → (newValue (lastOf es) ≡ found rs (lastOf es) → ⊥) → undoable (standing rs es) ≡ refused (answer 46 0 0 0)
+    unfolding stands
+    undo-differs at h n = undo-not-standing (simp (h .there, h .value, ne-eqb (newValue (lastOf es)) (found rs (lastOf es)) n))
 
-      pub undo-passes : newValue (lastOf es) ≡ found rs (lastOf es) → undoable (standing rs es) ≡ passed (standing (withValue rs (lastOf es) (oldValue (lastOf es))) (othersOf es))
-      unfolding undoable stands
-      undo-passes q = simp (ne-eqb (length es) 0 (λ z. omega arith), h .there, h .value, eq-eqb (newValue (lastOf es)) (found rs (lastOf es)) q)
+-- an entry stands where it names a value and its new value is found there
+pub it-stands : (rs : List (List ℕ)) (e : Entry) → noRecord rs (recordNumber e) ≡ false → isValue (recordIn rs (recordNumber e)) (wordNumber e) ≡ true → newValue e ≡ found rs e
+    → stands rs e ≡ true
+unfolding stands
+it-stands rs e there value q = simp (there, value, eq-eqb (newValue e) (found rs e) q)

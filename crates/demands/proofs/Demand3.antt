@@ -7,7 +7,7 @@ use lib.ListN.{length, replicate, length-append}
 use Rattle.units.specs.Answers.{answer, Verdict, passed, refused}
 use Rattle.words.specs.Words.{All, Below}
 use Rattle.words.specs.Outcomes.{written}
-use Rattle.words.proofs.Lists.{all-replicate}
+use Rattle.words.proofs.Lists.{all-replicate, all-mapped}
 use Rattle.block.specs.Judging.{judged}
 use Rattle.block.specs.Records.{recordsOf}
 use Rattle.block.specs.Rules.{blockOf, IsBlock}
@@ -18,11 +18,12 @@ use Rattle.sheet.specs.Sheets.{Layout, Entry, sheetOf}
 use Rattle.sheet.specs.Rules.{IsEntry}
 use Rattle.sheet.proofs.Sheets.{opened-sheet}
 use Rattle.amending.specs.Amending.{Standing, standing, amendable, undoable, leaving, onBoth}
+use Rattle.amending.proofs.Steps.{undo-empty}
 use Rattle.demands.specs.Demand3.{Call, amends, undoes, prints, ofBoth, done, doneAll, Buffers, leftBy, fresh, Takes, putIn, stacked, modelled, modelledAll, stackAfter, Accepts, ModelRule, shown, StandingPutIn, LinesDiffer, UndoneGivesBack}
 use Rattle.demands.proofs.Values.{alike-count}
 use Rattle.demands.proofs.Stack.{putIn-append, putIn-alike, putIn-block}
 use Rattle.demands.proofs.AmendedText.{text-size, stack-outside, stack-shows}
-use Rattle.demands.proofs.Model.{Reached, none-reached, amend-either, amend-accepted, reached-on, reached-before, undo-last, undo-none, from-end}
+use Rattle.demands.proofs.Model.{Reached, none-reached, amend-either, amend-accepted, reached-on, reached-before, undo-last, from-end}
 
 -- ---- one call
 
@@ -64,7 +65,7 @@ module _ (y : Layout) (rs : List (List ℕ)) (good : IsBlock (blockOf rs) rs) wh
 
   undo-tracks : (es : List Entry) → Reached y rs es → Tracks y rs (undoable (standing (putIn rs es) es))
   undo-tracks =
-      from-end (λ es. Reached y rs es → Tracks y rs (undoable (standing (putIn rs es) es))) (λ h. rw (undo-none rs) tt)
+      from-end (λ es. Reached y rs es → Tracks y rs (undoable (standing (putIn rs es) es))) (λ h. rw (undo-empty rs [] refl) tt)
       (λ before e _ h. rw (undo-last before e y rs (good .each) h) (refl, reached-before before e y rs (good .each) h))
 
   -- a call leaves what the model leaves, and that can be reached
@@ -122,11 +123,6 @@ module _ (y : Layout) (rs : List (List ℕ)) (good : IsBlock (blockOf rs) rs) wh
       let n : length (before ++ e ∷ []) ≡ suc (length before) = omega (arith, length-append before (e ∷ [])) in
       rw n (undone-on before e (replicate (length before) undoes) h (ih (reached-before before e y rs (good .each) h))))
 
--- what holds of each image
-all-mapped : {A B : Type 0} (P : B → Type 0) (f : A → B) (l : List A) → All (λ x. P (f x)) l → All P (map f l)
-all-mapped P f [] h = tt
-all-mapped P f (x ∷ xs) h = (h .0, all-mapped P f xs (h .1))
-
 -- ---- from an accepted block and an empty sheet
 
 module _ (b : List ℕ) (k : ℕ) (bytes : Below 256 b) (accepted : judged b ≡ passed k) where
@@ -157,7 +153,7 @@ model-rule y b k cs bytes accepted takes =
       λ e a. ap (stacked es) (amend-accepted y rs es (good .each) h e a) ∙ ap (λ n. record { answer = answer 0 n 0 0; stack = es ++ e ∷ []; out = [] }) (length-append es (e ∷ [])),
       λ e z. amend-either y rs es (good .each) h e (λ v. stacked es v .answer .n ≡ 0 → Accepts y rs es e) (λ n a l q. absurd (omega arith)) (λ a q. a) z,
       λ before e q. rw q (model-last y rs good before e (rw q at h)),
-      λ q. rw q (ap (stacked []) (undo-none rs)),
+      λ q. rw q (ap (stacked []) (undo-empty rs [] refl)),
     )
 
 pub undone-gives-back : UndoneGivesBack

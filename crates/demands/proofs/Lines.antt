@@ -13,6 +13,7 @@ use Rattle.units.specs.Choice.{if_then_else_}
 use Rattle.words.specs.Words.{word, All}
 use Rattle.words.proofs.Lists.{all-append}
 use Rattle.words.proofs.Laws.{length-bytesOf}
+use Rattle.words.proofs.Stores.{sets-left, sets-right}
 use Rattle.record.specs.Lines.{lineCount}
 use Rattle.record.specs.Rules.{KindOk, catalogue, header, dataRecord, RecordOk}
 use Rattle.field.specs.Writing.{fieldOf}
@@ -95,24 +96,6 @@ text-reached r h kind l j m n =
     omega (arith, length-append (ended (linesOf r)) [], z .bytes, data-size r e)
 
 -- ---- one word changed
-
--- stores within the first of two lists, and within the second
-sets-left : (vs xs ys : List ℕ) (k : ℕ) → k + length vs ≤ length xs → sets (xs ++ ys) k vs ≡ sets xs k vs ++ ys
-sets-left [] xs ys k h = refl
-sets-left (v ∷ vs) xs ys k h =
-    ap (λ l. sets l (suc k) vs) (set-append-left xs ys k v (omega arith))
-    ∙ sets-left vs (set xs k v) ys (suc k) (rw (length-set xs k v) (omega arith))
-
-set-right : (xs ys : List ℕ) (k v : ℕ) → set (xs ++ ys) (length xs + k) v ≡ xs ++ set ys k v
-set-right [] ys k v = rw zero-add
-set-right (x ∷ xs) ys k v = rw suc-add (ap (λ l. x ∷ l) (set-right xs ys k v))
-
-sets-right : (vs xs ys : List ℕ) (k : ℕ) → sets (xs ++ ys) (length xs + k) vs ≡ xs ++ sets ys k vs
-sets-right [] xs ys k = refl
-sets-right (v ∷ vs) xs ys k =
-    ap (λ l. sets l (suc (length xs + k)) vs) (set-right xs ys k v)
-    ∙ ap (λ n. sets (xs ++ set ys k v) n vs) (omega arith)
-    ∙ sets-right vs xs (set ys k v) (suc k)
 
 -- a word of a line
 fields-set : (ws : List ℕ) (j v : ℕ) → j < length ws → fieldsOf (set ws j v) ≡ sets (fieldsOf ws) (6 * j) (fieldOf v)

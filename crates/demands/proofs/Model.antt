@@ -20,6 +20,8 @@ use Rattle.sheet.specs.Sheets.{Layout, Entry}
 use Rattle.sheet.specs.Rules.{IsEntry}
 use Rattle.amending.specs.Places.{recordNumber, wordNumber, oldValue, newValue, recordIn, noRecord, noValue, found, withValue, stands}
 use Rattle.amending.specs.Amending.{Standing, standing, amendable, lastOf, othersOf, undoable}
+use Rattle.amending.proofs.Numbered.{is-record, record-is}
+use Rattle.amending.proofs.Steps.{amend-passes, undo-standing, it-stands}
 use Rattle.demands.specs.Demand3.{putIn, Accepts}
 use Rattle.demands.proofs.Values.{Named, Alike, amended-alike, amended-found, put-back, alike-count, alike-value, alike-named}
 use Rattle.demands.proofs.Stack.{Stack, putIn-append, stack-append, stack-parts, putIn-good, putIn-alike}
@@ -33,15 +35,6 @@ pub record Reached (y : Layout) (rs : List (List ℕ)) (es : List Entry) : Type 
 -- none need stand
 pub none-reached : (y : Layout) (rs : List (List ℕ)) → Reached y rs []
 none-reached y rs = record { each = tt; most = omega arith; stack = tt }
-
--- row 41 is not given exactly for the numbers of records
-is-record : (rs : List (List ℕ)) (n : ℕ) → noRecord rs n ≡ false → (1 ≤ n) × (n ≤ length rs)
-unfolding noRecord
-is-record rs n e = let o = or-off (eqb n 0) (ltb (length rs) n) e in let z = eqb-false n 0 (o .0) in (omega (arith, z), ltb-false (length rs) n (o .1))
-
-record-is : (rs : List (List ℕ)) (n : ℕ) → 1 ≤ n → n ≤ length rs → noRecord rs n ≡ false
-unfolding noRecord
-record-is rs n h k = simp (ne-eqb n 0 (λ e. omega arith), le-ltb (length rs) n k)
 
 -- ---- amend
 
@@ -76,11 +69,9 @@ module _ (y : Layout) (rs : List (List ℕ)) (es : List Entry) (good : All Recor
 
     -- an amendment is not refused
     pub amend-accepted : Accepts y rs es e → amendable y e (standing ps es) ≡ passed (standing (withValue ps e (newValue e)) (es ++ e ∷ []))
-    unfolding amendable
     amend-accepted a =
         let has = record-is ps (recordNumber e) (a .record-is .0) (omega (arith, a .record-is .1, alike-count rs ps alike)) in
-        let value = alike-value rs ps alike (recordNumber e) (wordNumber e) ∙ a .value in
-        simp (lt-leb (y .limit) (length es) (a .room), has, value, eq-eqb (oldValue e) (found ps e) (sym (a .old)))
+        amend-passes y e ps es (a .room) has (alike-value rs ps alike (recordNumber e) (wordNumber e) ∙ a .value) (sym (a .old))
 
     -- and the stack can be reached with it
     pub reached-on : IsEntry y e → Accepts y rs es e → Reached y rs (es ++ e ∷ [])
@@ -98,11 +89,10 @@ module _ (y : Layout) (rs : List (List ℕ)) (es : List Entry) (good : All Recor
 
 -- row 46 is not given right after an amendment
 new-stands : (rs : List (List ℕ)) (e : Entry) → All RecordOk rs → Named rs e → stands (withValue rs e (newValue e)) e ≡ true
-unfolding stands
 new-stands rs e good p =
     let v = newValue e in
     let n = alike-named rs (withValue rs e v) (amended-alike rs e good p v) e p in
-    simp (record-is (withValue rs e v) (recordNumber e) (n .least) (n .most), n .value, eq-eqb v (found (withValue rs e v) e) (sym (amended-found rs e good p v)))
+    it-stands (withValue rs e v) e (record-is (withValue rs e v) (recordNumber e) (n .least) (n .most)) (n .value) (sym (amended-found rs e good p v))
 
 -- where an entry stands last, the others are those before it
 module _ (before : List Entry) (e : Entry) where
@@ -119,9 +109,8 @@ module _ (before : List Entry) (e : Entry) where
   others-are = take-at before (e ∷ []) (length all - 1) (omega (arith, length-all))
 
   -- and where its new value stands, its old value is put back
-  undo-standing : (rs : List (List ℕ)) → stands rs e ≡ true → undoable (standing rs all) ≡ passed (standing (withValue rs e (oldValue e)) before)
-  unfolding undoable
-  undo-standing rs s = simp (last-is, others-are, ne-eqb (length all) 0 (λ z. omega (arith, length-all)), s)
+  last-undone : (rs : List (List ℕ)) → stands rs e ≡ true → undoable (standing rs all) ≡ passed (standing (withValue rs e (oldValue e)) before)
+  last-undone rs s = rw (last-is, others-are) at (undo-standing rs all (omega (arith, length-all)) (rw last-is s))
 
   -- of a stack that can be reached, the last one goes
   module _ (y : Layout) (rs : List (List ℕ)) (good : All RecordOk rs) (h : Reached y rs all) where
@@ -140,13 +129,8 @@ module _ (before : List Entry) (e : Entry) where
         let fit = stack-parts rs before (e ∷ []) (h .stack) .1 .0 in
         let v = newValue e in
         ap (λ ss. undoable (standing ss all)) (putIn-append rs before (e ∷ []))
-        ∙ undo-standing (withValue qs e v) (new-stands qs e g (fit .named))
+        ∙ last-undone (withValue qs e v) (new-stands qs e g (fit .named))
         ∙ ap (λ ss. passed (standing ss before)) (ap (withValue (withValue qs e v) e) (sym (fit .old)) ∙ put-back qs e g (fit .named) v)
-
--- and where none stands, row 45
-pub undo-none : (rs : List (List ℕ)) → undoable (standing rs []) ≡ refused (answer 45 0 0 0)
-unfolding undoable
-undo-none rs = refl
 
 -- what holds of no entry, and goes from some to one more behind them, holds of all
 pub from-end : (P : List Entry → Type 0) → P [] → ((before : List Entry) (e : Entry) → P before → P (before ++ e ∷ [])) → (es : List Entry) → P es

@@ -1,37 +1,20 @@
 -- One value of good records amended: what it changes, and what it leaves.
 use mathlib.Core.Path.{_≡_, refl, sym, ap, _∙_}
-use mathlib.Core.Bool.{Bool, true, false, _||_}
+use mathlib.Core.Bool.{true}
 use mathlib.Core.List.{List, [], _∷_, map}
 use Prim.Native.Nat.{ℕ, zero, suc, _+_, _-_, _≤_, _<_}
 use native.Mathlib.Omega.{arith}
-use borrow.Author.Tests.{leb-true, eqb-true}
-use lib.Dec.{leb, eqb}
 use lib.ListN.{length, getD, set, length-set, length-map, List·getD-map}
 use lib.Seq.{getD-set-same, getD-set-other, set-getD, set-set, map-set-same}
-use Rattle.units.proofs.Verdicts.{and-on}
 use Rattle.words.specs.Words.{word, All}
-use Rattle.record.specs.Judging.{within, wordsNeeded}
+use Rattle.words.proofs.Lists.{all-at, all-set}
 use Rattle.record.specs.Rules.{dataRecord, RecordOk}
 use Rattle.record.specs.Values.{isValue}
+use Rattle.record.proofs.Values.{value-at}
 use Rattle.lines.specs.Columns.{columnsBefore}
 use Rattle.lines.proofs.Sizes.{is-data}
 use Rattle.sheet.specs.Sheets.{Entry}
 use Rattle.amending.specs.Places.{recordNumber, wordNumber, recordIn, found, withValue}
-
--- ---- lists
-
-module _ {A : Type 0} (P : A → Type 0) where
-  -- what holds of all holds of each
-  all-at : (l : List A) (i : ℕ) (d : A) → i < length l → All P l → P (getD l i d)
-  all-at [] i d h a = absurd (omega arith)
-  all-at (x ∷ xs) zero d h a = a .0
-  all-at (x ∷ xs) (suc i) d h a = all-at xs i d (omega arith) (a .1)
-
-  -- and of all, one of them replaced
-  all-set : (l : List A) (i : ℕ) (x : A) → P x → All P l → All P (set l i x)
-  all-set [] i x p a = tt
-  all-set (y ∷ ys) zero x p a = (p, a .1)
-  all-set (y ∷ ys) (suc i) x p a = (a .0, all-set ys i x p (a .1))
 
 -- ---- a value's word
 
@@ -42,29 +25,9 @@ pub record ValueWord (r : List ℕ) (j : ℕ) : Type 0 where
   pub low : 16 ≤ j
   pub high : j < length r
 
-either-on : (s t : Bool) {P : Type 0} → (s ≡ true → P) → (t ≡ true → P) → (s || t) ≡ true → P
-either-on true t h k e = h refl
-either-on false t h k e = k e
-
-within-on : (least most x : ℕ) → within least most x ≡ true → (least ≤ x) × (x ≤ most)
-within-on least most x e = let a = and-on (leb least x) (leb x most) e in (leb-true least x (a .0), leb-true x most (a .1))
-
 -- a value is such a word
 value-word : (r : List ℕ) (w : ℕ) → RecordOk r → isValue r w ≡ true → ValueWord r (w - 1)
-unfolding isValue
-value-word r w h e =
-    let codes = word r 13 + word r 14 in
-    let values = codes + word r 14 in
-    let all = wordsNeeded (word r 13) (word r 14) (word r 15) (word r 16) in
-    let a = and-on (eqb (word r 2) 1002) (within (codes + 1) values w || within (values + word r 15 + 1) all w) e in
-    let kind = eqb-true (word r 2) 1002 (a .0) in
-    let d = is-data r h kind in
-    let ends : (17 ≤ w) × (w ≤ length r) =
-    either-on (within (codes + 1) values w) (within (values + word r 15 + 1) all w)
-    (λ q. let b = within-on (codes + 1) values w q in (omega (arith, d .lprol .least-is, b .0), omega (arith, d .sum, b .1)))
-    (λ q. let b = within-on (values + word r 15 + 1) all w q in (omega (arith, d .lprol .least-is, b .0), omega (arith, d .sum, b .1)))
-    (a .1) in
-    record { ok = h; kind = kind; low = omega (arith, ends .0); high = omega (arith, ends .0, ends .1) }
+value-word r w h e = let v = value-at r w h e in record { ok = h; kind = v .kind; low = omega (arith, v .low); high = omega (arith, v .low, v .high) }
 
 -- the first 16 words stay, whatever is put there
 module _ (r : List ℕ) (j v : ℕ) (h : ValueWord r j) where

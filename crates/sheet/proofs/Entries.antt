@@ -4,11 +4,11 @@ use mathlib.Core.List.{List, [], _∷_, _++_, append-assoc, append-nil}
 use Prim.Native.Nat.{ℕ, suc, _+_, _-_, _*_, _≤_, _<_}
 use native.Mathlib.Omega.{arith}
 use lib.ListN.{length, getD, take, replicate, length-append, length-replicate, replicate-append-replicate, List·getD-append}
-use lib.Seq.{sets, length-take-le, take-suc, take-all, drop-cons, getD-drop}
+use lib.Seq.{sets, length-take-le, take-suc, take-all, getD-drop}
 use Rattle.units.specs.Units.{bytesOfWords}
 use Rattle.words.specs.Words.{wordsOf, bytesOf, joined, All}
 use Rattle.words.proofs.Laws.{words-bytes, joined-append}
-use Rattle.words.proofs.Lists.{all-take, all-drop, all-parts}
+use Rattle.words.proofs.Lists.{all-take, all-at, all-parts}
 use Rattle.words.proofs.Stores.{sets-right, sets-part, bytes-sets}
 use Rattle.words.proofs.Joined.{joined-room, getD-joined}
 use Rattle.sheet.specs.Sheets.{Layout, Entry, sheetWith, sheetOf}
@@ -91,8 +91,8 @@ pub entry-number : (y : Layout) (s : List ℕ) (es : List Entry) (i j : ℕ) →
 unfolding sheetOf sheetWith bytesOf wordsOf
 entry-number y s es i j h there within =
     let before : length (joined (take i es)) ≡ i * y .size = length-joined y (take i es) (all-take (IsEntry y) i es (h .each)) ∙ ap (λ n. n * y .size) (length-take-le i es (omega arith)) in
-    let it = rw (drop-cons es i [] there) at (all-drop (IsEntry y) i es (h .each)) in
-    let room : j < length (getD es i []) = omega (arith, it .0 .size) in
+    let it = all-at (IsEntry y) es i [] there (h .each) in
+    let room : j < length (getD es i []) = omega (arith, it .size) in
     let k = length (joined (take i es)) + j in
     let place : 4 + i * y .size + j ≡ 4 + k = omega arith in
     ap₂ (λ (b : List ℕ) (n : ℕ). getD (wordsOf b) n 0) (h .bytes) place

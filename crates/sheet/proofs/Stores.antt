@@ -11,7 +11,7 @@ use lib.Seq.{sets, slice, take-all, drop-drop, drop-length, drop-cons, set-at, a
 use Rattle.words.specs.Words.{wordsOf, bytesOf, joined}
 use Rattle.units.specs.Units.{bytesOfWords}
 use Rattle.words.proofs.Laws.{words-slice}
-use Rattle.words.proofs.Lists.{all-drop}
+use Rattle.words.proofs.Lists.{all-at}
 use Rattle.units.proofs.Verdicts.{or-off}
 use borrow.Author.Tests.{eqb-true, not-false}
 use Rattle.sheet.specs.Sheets.{Layout, Entry, version1, sheetBytes, sheetWith, sheetOf, entriesOf, wrongMark, broken}
@@ -99,7 +99,7 @@ pub entry-read : (s : List ℕ) (i at : ℕ) {a b c d : ℕ} → KeepsLayout ver
     → a ≡ getD (wordsOf s) at 0 → b ≡ getD (wordsOf s) (at + 1) 0 → c ≡ getD (wordsOf s) (at + 2) 0 → d ≡ getD (wordsOf s) (at + 3) 0 → a ∷ b ∷ c ∷ d ∷ [] ≡ getD (entriesOf version1 s) i []
 entry-read s i at h there e ea eb ec ed =
     let es = entriesOf version1 s in
-    let it = rw (drop-cons es i [] there) at (all-drop (IsEntry version1) i es (h .each)) in
+    let it = all-at (IsEntry version1) es i [] there (h .each) in
     let number : (j : ℕ) → j < 4 → getD (wordsOf s) (4 + i * 4 + j) 0 ≡ getD (getD es i []) j 0 = λ j k. entry-number version1 s es i j h there k in
     let first : getD (wordsOf s) (4 + i * 4) 0 ≡ getD (getD es i []) 0 0 = ap (λ k. getD (wordsOf s) k 0) (omega arith) ∙ number 0 (omega arith) in
-    rw (ea, eb, ec, ed, e, first, number 1 (omega arith), number 2 (omega arith), number 3 (omega arith)) (sym (four-of (getD es i []) (it .0 .size)))
+    rw (ea, eb, ec, ed, e, first, number 1 (omega arith), number 2 (omega arith), number 3 (omega arith)) (sym (four-of (getD es i []) (it .size)))

@@ -1,10 +1,10 @@
 -- Facts about lists that every layer cites.
 use mathlib.Core.Path.{_≡_, ap, _∙_}
-use mathlib.Core.List.{List, [], _∷_, _++_}
-use Prim.Native.Nat.{ℕ, zero, suc, _+_, _-_, _≤_}
+use mathlib.Core.List.{List, [], _∷_, _++_, map}
+use Prim.Native.Nat.{ℕ, zero, suc, _+_, _-_, _≤_, _<_}
 use native.Mathlib.Nat.{suc-add, zero-add}
 use native.Mathlib.Omega.{arith}
-use lib.ListN.{getD, take, drop, replicate}
+use lib.ListN.{length, getD, take, drop, set, replicate}
 use lib.Seq.{slice, take-nil}
 use Rattle.words.specs.Words.{All}
 
@@ -45,6 +45,18 @@ module _ {A : Type 0} (P : A → Type 0) where
   all-getD (x ∷ xs) zero d o h = h .0
   all-getD (x ∷ xs) (suc i) d o h = all-getD xs i d o (h .1)
 
+  -- of one that is there
+  pub all-at : (l : List A) (i : ℕ) (d : A) → i < length l → All P l → P (getD l i d)
+  all-at [] i d h a = absurd (omega arith)
+  all-at (x ∷ xs) zero d h a = a .0
+  all-at (x ∷ xs) (suc i) d h a = all-at xs i d (omega arith) (a .1)
+
+  -- of all, one of them replaced
+  pub all-set : (l : List A) (i : ℕ) (x : A) → P x → All P l → All P (set l i x)
+  all-set [] i x p a = tt
+  all-set (y ∷ ys) zero x p a = (p, a .1)
+  all-set (y ∷ ys) (suc i) x p a = (a .0, all-set ys i x p (a .1))
+
   pub all-replicate : (n : ℕ) (a : A) → P a → All P (replicate n a)
   all-replicate zero a h = tt
   all-replicate (suc n) a h = (h, all-replicate n a h)
@@ -53,3 +65,8 @@ module _ {A : Type 0} (P : A → Type 0) where
 pub all-map : {A : Type 0} (P Q : A → Type 0) → ((x : A) → P x → Q x) → (l : List A) → All P l → All Q l
 all-map P Q f [] h = tt
 all-map P Q f (x ∷ xs) h = (f x (h .0), all-map P Q f xs (h .1))
+
+-- what holds of each image
+pub all-mapped : {A B : Type 0} (P : B → Type 0) (f : A → B) (l : List A) → All (λ x. P (f x)) l → All P (map f l)
+all-mapped P f [] h = tt
+all-mapped P f (x ∷ xs) h = (h .0, all-mapped P f xs (h .1))

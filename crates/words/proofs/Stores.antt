@@ -1,11 +1,11 @@
 -- Stores into a part of a list, and stores of words among words as stores of their bytes.
 use mathlib.Core.Path.{_≡_, refl, ap, _∙_}
 use mathlib.Core.List.{List, [], _∷_, _++_}
-use Prim.Native.Nat.{ℕ, zero, suc, _+_, _*_, _/_, _%_}
+use Prim.Native.Nat.{ℕ, zero, suc, _+_, _*_, _/_, _%_, _≤_}
 use native.Mathlib.Nat.{zero-add, suc-add}
 use native.Mathlib.Omega.{arith}
-use lib.ListN.{length, set, length-append}
-use lib.Seq.{sets, sets-eq, drop-at}
+use lib.ListN.{length, set, length-append, length-set}
+use lib.Seq.{sets, set-append-left, sets-eq, drop-at}
 use Rattle.units.specs.Units.{bytesOfWords}
 use Rattle.words.specs.Words.{bytesOf}
 
@@ -21,6 +21,13 @@ module _ {A : Type 0} where
       ap (λ l. sets l (suc (length xs + k)) vs) (set-right xs ys k v)
       ∙ ap (λ n. sets (xs ++ set ys k v) n vs) (omega arith)
       ∙ sets-right vs xs (set ys k v) (suc k)
+
+  -- and stores within the front leave what is behind it alone
+  pub sets-left : (vs xs ys : List A) (k : ℕ) → k + length vs ≤ length xs → sets (xs ++ ys) k vs ≡ sets xs k vs ++ ys
+  sets-left [] xs ys k h = refl
+  sets-left (v ∷ vs) xs ys k h =
+      ap (λ l. sets l (suc k) vs) (set-append-left xs ys k v (omega arith))
+      ∙ sets-left vs (set xs k v) ys (suc k) (rw (length-set xs k v) (omega arith))
 
   -- stores over all of a part put the new part in its place
   pub sets-part : (xs old new ys : List A) → length old ≡ length new → sets (xs ++ (old ++ ys)) (length xs) new ≡ xs ++ (new ++ ys)
