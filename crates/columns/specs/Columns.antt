@@ -11,7 +11,7 @@ use Rattle.record.specs.Judging.{within}
 use Rattle.field.specs.Reading.{readField, columns}
 use Rattle.field.specs.declared.Number.{Number}
 use Rattle.field.specs.declared.Number.the-variants.{Word, Bad}
-use Rattle.lines.specs.Lines.{Line}
+use Rattle.laying.specs.Laying.{Line}
 
 -- row 20: of the columns from k on, the first that is past 120 or has a byte other than 32 to 126; 0 where there is none
 unfoldable pub badColumn : ℕ → Line → ℕ

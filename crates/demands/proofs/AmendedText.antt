@@ -12,8 +12,9 @@ use Rattle.words.proofs.Sealing.{slice-sets}
 use Rattle.record.specs.Rules.{RecordOk}
 use Rattle.field.specs.Writing.{fieldOf}
 use Rattle.field.proofs.Written.{length-fieldOf}
+use Rattle.laying.specs.Laying.{ended}
 use Rattle.lines.specs.Lines.{linesOf}
-use Rattle.lines.specs.Text.{ended, textOf}
+use Rattle.lines.specs.Text.{textOf}
 use Rattle.lines.specs.Columns.{columnsBefore}
 use Rattle.sheet.specs.Sheets.{Entry}
 use Rattle.amending.specs.Places.{recordNumber, newValue, found, withValue}

@@ -17,7 +17,7 @@ use Rattle.words.proofs.Lists.{all-getD}
 use Rattle.field.specs.declared.Number.the-variants.{Bad}
 use Rattle.field.specs.Reading.{columns, readField}
 use Rattle.units.proofs.Choosing.{both-ways}
-use Rattle.lines.specs.Lines.{Line}
+use Rattle.laying.specs.Laying.{Line}
 use Rattle.columns.specs.Columns.{badColumn, inkFrom, inkAfter, blankAfter, wordIn, number, numbers, blankField, zeroField, zeros}
 use Rattle.reading.specs.Reading.{Shape, card, fields, gives, firstLine, rowFields, inState, lineStep, readLines}
 use Rattle.text.specs.Spelled.{Printed, Readable, Blanks, Spells, SpellsAll, SpellsZero, LineSpells, LinesSpell, no-lines, a-line}

@@ -11,9 +11,10 @@ use Rattle.units.specs.Decimal.{decimal}
 use Rattle.field.specs.Reading.{readField, columns}
 use Rattle.columns.specs.Columns.{number}
 use Rattle.report.specs.Text.{bytesFrom}
-use Rattle.lines.specs.Lines.{fieldsOf, part, times, plan, laid, linesOf}
+use Rattle.laying.specs.Laying.{fieldsOf, part, times, plan, laid, ended}
+use Rattle.lines.specs.Lines.{linesOf}
 use Rattle.words.specs.Outcomes.{written}
-use Rattle.lines.specs.Text.{ended, textOf, toLines}
+use Rattle.lines.specs.Text.{textOf, toLines}
 use Rattle.prefix.specs.LookUp.{beside}
 use Rattle.prefix.specs.Table.{table}
 use Rattle.record.specs.Values.{isValue}

@@ -12,7 +12,8 @@ use Rattle.words.specs.Words.{word, All}
 use Rattle.record.specs.Lines.{linesNeeded, lineCount}
 use Rattle.record.specs.Rules.{CardsOk, DataOk, KindOk, catalogue, header, dataRecord, RecordOk}
 use Rattle.record.proofs.Passed.{least-at}
-use Rattle.lines.specs.Lines.{Line, dataPlan, kindShown}
+use Rattle.laying.specs.Laying.{Line}
+use Rattle.lines.specs.Lines.{dataPlan, kindShown}
 use Rattle.lines.proofs.Sizes.{is-cards, is-data, data-count}
 use Rattle.reading.specs.Reading.{card, fields, gives, cardsLine, countsIn, planLine, catalogueLine, headerFields, headerLine, countFields, prologueFields, dataLine, kindLine, firstLine, inState}
 use Rattle.text.specs.Spelled.{Blanks, SpellsAll, CardsSpelled}

@@ -11,7 +11,8 @@ use Rattle.record.specs.Judging.{wordsNeeded}
 use Rattle.record.specs.Lines.{lineCount}
 use Rattle.record.specs.Rules.{CardWord, CardsOk, DataOk, KindOk, catalogue, header, dataRecord, RecordOk}
 use Rattle.field.specs.Reading.{columns}
-use Rattle.lines.specs.Lines.{Line, dataPlan, kindShown, shown}
+use Rattle.laying.specs.Laying.{Line}
+use Rattle.lines.specs.Lines.{dataPlan, kindShown, shown}
 use Rattle.lines.proofs.Sizes.{is-cards, data-count}
 use Rattle.reading.specs.Reading.{Shape, card, fields, Read}
 use Rattle.text.specs.Spelled.{Printed, Readable, LineSpells, LinesSpell, no-lines, a-line, CardsSpelled, RecordSpelled, as-catalogue, as-header, as-data}

@@ -18,10 +18,11 @@ use Rattle.record.specs.Lines.{lineCount}
 use Rattle.record.specs.Rules.{KindOk, catalogue, header, dataRecord, RecordOk}
 use Rattle.field.specs.Writing.{fieldOf}
 use Rattle.field.proofs.Written.{length-fieldOf}
-use Rattle.lines.specs.Lines.{fieldsOf, shorter, part, times, plan, dataPlan, laid, cardLines, shown, linesOf}
-use Rattle.lines.specs.Text.{ended, textOf}
+use Rattle.laying.specs.Laying.{fieldsOf, shorter, part, times, plan, laid, cardLines, ended}
+use Rattle.laying.proofs.Turns.{length-fieldsOf, fieldsIn}
+use Rattle.lines.specs.Lines.{dataPlan, shown, linesOf}
+use Rattle.lines.specs.Text.{textOf}
 use Rattle.lines.specs.Columns.{endsBefore, columnsBefore}
-use Rattle.lines.proofs.Turns.{length-fieldsOf, fieldsIn}
 use Rattle.lines.proofs.Sizes.{sized, text-bound, data-count, data-size, data-lines, cards-lines, is-data, data-is, length-plan, fieldsIn-plan}
 use Rattle.demands.specs.Lines.{LineCount, LineWidth, TextBound, TextReached, SixColumns, WordStands}
 

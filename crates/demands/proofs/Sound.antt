@@ -19,7 +19,7 @@ use Rattle.record.specs.Rules.{RecordOk}
 use Rattle.block.specs.Judging.{Accepted}
 use Rattle.block.specs.Rules.{IsBlock}
 use Rattle.block.proofs.Exact.{some-record, every-good}
-use Rattle.lines.specs.Lines.{Line}
+use Rattle.laying.specs.Laying.{Line}
 use Rattle.cutting.specs.Cutting.{linesIn}
 use Rattle.reading.specs.Reading.{Shape, Read, lineStep, atEnd, readLines}
 use Rattle.text.specs.Block.{readText, toBlock}

@@ -20,9 +20,10 @@ use Rattle.field.specs.Reading.{columns, readField}
 use Rattle.field.proofs.Written.{length-fieldOf, bytes-fieldOf}
 use Rattle.field.proofs.Back.{read-written}
 use Rattle.units.proofs.Choosing.{both-ways}
-use Rattle.lines.specs.Lines.{Line, fieldsOf, dataPlan, laid, cardLines, kindShown, shown, linesOf}
-use Rattle.lines.specs.Text.{ended, textOf}
-use Rattle.lines.proofs.Turns.{length-fieldsOf, fieldsIn}
+use Rattle.laying.specs.Laying.{Line, fieldsOf, laid, cardLines, ended}
+use Rattle.laying.proofs.Turns.{length-fieldsOf, fieldsIn}
+use Rattle.lines.specs.Lines.{dataPlan, kindShown, shown, linesOf}
+use Rattle.lines.specs.Text.{textOf}
 use Rattle.lines.proofs.Sizes.{sized, is-cards, cards-lines, data-lines, fieldsIn-plan, text-most}
 use Rattle.cutting.specs.Cutting.{onto, linesIn, endLength}
 use Rattle.columns.proofs.Columns.{columns-full}

@@ -12,7 +12,8 @@ use Rattle.words.proofs.Lists.{all-parts}
 use Rattle.record.specs.Lines.{lineCount}
 use Rattle.record.specs.Rules.{RecordOk}
 use Rattle.block.proofs.Exact.{ok-long}
-use Rattle.lines.specs.Lines.{Line, dataPlan, kindShown, shown}
+use Rattle.laying.specs.Laying.{Line}
+use Rattle.lines.specs.Lines.{dataPlan, kindShown, shown}
 use Rattle.lines.proofs.Sizes.{is-data}
 use Rattle.reading.specs.Reading.{Shape, card, fields, gives, inState, atEnd, readLines}
 use Rattle.text.specs.Block.{readText}

@@ -4,9 +4,8 @@ use mathlib.Core.Path.{_≡_, refl}
 use mathlib.Core.List.{List}
 use Prim.Native.Nat.{ℕ, _≤_}
 use native.Mathlib.Omega.{arith}
-use lib.ListN.{length}
 use Rattle.units.specs.declared.Answer.{Answer}
-use Rattle.units.specs.Answers.{answer, Verdict, passed, refused, Packs}
+use Rattle.units.specs.Answers.{Verdict, passed, refused, Packs}
 use Rattle.words.specs.Outcomes.{written, leaves}
 use Rattle.block.specs.Judging.{judged}
 use Rattle.block.specs.Records.{recordsOf}

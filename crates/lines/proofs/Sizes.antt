@@ -19,9 +19,10 @@ use Rattle.record.specs.Rules.{CardsOk, DataOk, KindOk, catalogue, header, data
 use Rattle.block.specs.Judging.{Accepted}
 use Rattle.block.specs.Records.{recordsOf}
 use Rattle.block.proofs.Exact.{only-good}
-use Rattle.lines.specs.Lines.{fieldsOf, shorter, part, times, plan, dataPlan, laid, cardLines, kindShown, shown, linesOf}
-use Rattle.lines.specs.Text.{ended, textOf}
-use Rattle.lines.proofs.Turns.{length-fieldsOf, fieldsIn, fieldsIn-append, fieldsIn-part}
+use Rattle.laying.specs.Laying.{fieldsOf, shorter, part, times, plan, laid, cardLines, ended}
+use Rattle.laying.proofs.Turns.{length-fieldsOf, fieldsIn, fieldsIn-append, fieldsIn-part}
+use Rattle.lines.specs.Lines.{dataPlan, kindShown, shown, linesOf}
+use Rattle.lines.specs.Text.{textOf}
 
 length-part : (n : ℕ) → length (part n) ≡ linesOfFields n
 unfolding part

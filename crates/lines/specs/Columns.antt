@@ -1,5 +1,5 @@
 -- Where a word of a Data record stands in the record's text.
-use Prim.Native.Nat.{ℕ, suc, _+_, _-_, _*_}
+use Prim.Native.Nat.{ℕ, suc, _+_, _-_}
 use mathlib.Core.List.{List, [], _∷_}
 use lib.Dec.{ltb}
 use Rattle.units.specs.Choice.{if_then_else_}

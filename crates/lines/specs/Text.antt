@@ -5,12 +5,8 @@ use Rattle.units.specs.Answers.{passed, onward}
 use Rattle.words.specs.Outcomes.{Written, written}
 use Rattle.block.specs.Judging.{judged}
 use Rattle.block.specs.Records.{recordsOf}
-use Rattle.lines.specs.Lines.{Line, linesOf}
-
--- "Every line ends with LF and has no filling"
-unfoldable pub ended : List Line → List ℕ
-ended [] = []
-ended (l ∷ ls) = l ++ (10 ∷ ended ls)
+use Rattle.laying.specs.Laying.{ended}
+use Rattle.lines.specs.Lines.{linesOf}
 
 -- "A block's text is its records' lines in order"
 unfoldable pub textOf : List (List ℕ) → List ℕ

@@ -14,7 +14,7 @@ use Rattle.words.proofs.Laws.{bytes-append, length-bytesOf}
 use Rattle.words.proofs.Writing.{sets-append}
 use Rattle.record.specs.Judging.{underLeast, wordsNeeded}
 use Rattle.record.specs.Lines.{linesNeeded}
-use Rattle.lines.specs.Lines.{plan}
+use Rattle.laying.specs.Laying.{plan}
 use Rattle.columns.specs.Columns.{columnOf, numbers, blankAfter}
 use Rattle.reading.specs.Reading.{Read, Shape, card, fields, gives, cardsLine, countsIn, planLine, prologueFields, catalogueLine, headerLine, dataLine, kindLine}
 use Rattle.reading.specs.State.{put}

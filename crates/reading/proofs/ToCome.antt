@@ -5,8 +5,8 @@ use Prim.Native.Nat.{ℕ, zero, suc, _+_, _-_, _<_, min}
 use native.Mathlib.Omega.{arith}
 use native.Mathlib.Numerals.{add-one}
 use lib.ListN.{length, drop, replicate}
-use Rattle.lines.specs.Lines.{part, times, plan}
-use Rattle.lines.proofs.Turns.{part-turn}
+use Rattle.laying.specs.Laying.{part, times, plan}
+use Rattle.laying.proofs.Turns.{part-turn}
 use Rattle.reading.specs.declared.Plan.{Plan}
 use Rattle.reading.specs.Reading.{card, fields}
 use Rattle.reading.specs.State.{linesLeft, toCome}

@@ -11,7 +11,8 @@ use Rattle.words.specs.Words.{word, wordsOf}
 use Rattle.record.specs.Judging.{underLeast, wordsNeeded}
 use Rattle.record.specs.Lines.{linesNeeded}
 use Rattle.field.specs.Reading.{columns}
-use Rattle.lines.specs.Lines.{Line, dataPlan}
+use Rattle.laying.specs.Laying.{Line}
+use Rattle.lines.specs.Lines.{dataPlan}
 use Rattle.columns.specs.Columns.{badColumn, inkFrom, blankAfter, columnOf, numbers, zeros}
 
 -- a line still to come of a record: a card, or so many number fields

@@ -7,7 +7,7 @@ use lib.Seq.{sets}
 use Rattle.units.specs.Units.{bytesOfWords}
 use Rattle.units.specs.Answers.{Verdict, passed, refused, onward}
 use Rattle.words.specs.Words.{bytesOf}
-use Rattle.lines.specs.Lines.{part, times}
+use Rattle.laying.specs.Laying.{part, times}
 use Rattle.columns.specs.Cases.{flawOf}
 use Rattle.reading.specs.Reading.{Shape, card, fields, Read}
 use Rattle.reading.specs.declared.Plan.{Plan}

@@ -12,7 +12,7 @@ ghost use lib.Seq.{slice};
 ghost use Rattle.units.specs.Answers.{onward};
 ghost use Rattle.words.specs.Words.{wordsOf};
 ghost use Rattle.record.specs.Judging.{plainIn};
-ghost use Rattle.lines.specs.Lines.{part, times, plan};
+ghost use Rattle.laying.specs.Laying.{part, times, plan};
 ghost use Rattle.field.specs.Reading.{columns};
 ghost use Rattle.columns.specs.Cases.{checkedOf};
 ghost use Rattle.reading.specs.Reading.{card, fields, countsIn, cardsLine, planLine, headerFields, countFields, prologueFields, catalogueLine, headerLine, dataLine, kindLine, firstLine, rowFields, inState, lineStep};
@@ -278,7 +278,7 @@ fn prologue_line(num: Lines, so: Words, line: &[u8], row: &mut [u16], block: &mu
     requires { ⌜ (16 ≤ getD (now row) 12 0) × (length (now row) ≡ 20) × (so .0 < 2 ^ 22) ⌝ }
     ensures { λ r. ⌜ Stepped (so .0) (now (block .entry)) (onward (prologueFields (num .0) (now (line .entry)) (take 16 (now (row .entry)))) (λ first. planLine (num .0) (so .0) first)) (now (block .exit)) r ⌝ }
 {
-    let used = lines::on_line(units::words_said(row[12]));
+    let used = laying::on_line(units::words_said(row[12]));
     match prologue_fields(num, used, line, row) {
         Checked::Flawed(f) => Step::Refused(f),
         Checked::Good => plan_line(num, so, used, row, block),
@@ -402,7 +402,7 @@ fn fields_line(
     ensures { λ r. ⌜ Stepped (so .0) (now (block .entry)) (inState (num .0) (so .0) (toCome p) (now (line .entry))) (now (block .exit)) r ⌝ }
 {
     let left = p.left.0;
-    let count = lines::on_line(Words(left));
+    let count = laying::on_line(Words(left));
     let first = so.0 + 1;
     let behind = so.0 + count.0;
     let rest = one_line_less(p, count);

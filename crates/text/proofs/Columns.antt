@@ -19,7 +19,7 @@ use Rattle.field.specs.declared.Number.the-variants.{Word, Bad}
 use Rattle.field.specs.declared.Scan.{Scan}
 use Rattle.field.specs.declared.Scan.the-variants.{Blank, Sign, Digits, Spoiled}
 use Rattle.field.specs.Reading.{finishOf, scanOf, readField, columns}
-use Rattle.lines.specs.Lines.{Line}
+use Rattle.laying.specs.Laying.{Line}
 use Rattle.columns.specs.Columns.{badColumn, inkFrom, inkAfter, blankAfter, columnOf, wordIn, number, numbers, blankField, zeroField, zeros}
 use Rattle.text.specs.Spelled.{Printed, Readable, Blanks, Spells, SpellsAll, SpellsZero}
 use Rattle.text.proofs.Told.{told, Known, then-known, known-as}

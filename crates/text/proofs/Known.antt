@@ -14,7 +14,7 @@ use Rattle.words.specs.Words.{bytesOf, framed}
 use Rattle.words.specs.Outcomes.{written}
 use Rattle.words.proofs.Sealing.{length-framed}
 use Rattle.words.proofs.Writing.{written-told}
-use Rattle.lines.specs.Lines.{Line}
+use Rattle.laying.specs.Laying.{Line}
 use Rattle.cutting.specs.Cutting.{onto, linesIn, endLength}
 use Rattle.reading.specs.Reading.{Shape, Read, lineStep, atEnd, readLines}
 use Rattle.text.specs.Block.{readText, toBlock}

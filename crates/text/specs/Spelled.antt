@@ -9,7 +9,8 @@ use Rattle.words.specs.Words.{word, wordsOf, All}
 use Rattle.record.specs.Lines.{lineCount}
 use Rattle.field.specs.declared.Number.the-variants.{Word}
 use Rattle.field.specs.Reading.{readField, columns}
-use Rattle.lines.specs.Lines.{Line, dataPlan, shown}
+use Rattle.laying.specs.Laying.{Line}
+use Rattle.lines.specs.Lines.{dataPlan, shown}
 use Rattle.reading.specs.Reading.{Shape, card, fields}
 
 -- "Other bytes are 32 to 126"

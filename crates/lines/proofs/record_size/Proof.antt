@@ -1,19 +1,17 @@
 use Rattle.lines.proofs.Sizes.{Sized, sized, data-size, cards-size, is-cards}
-use Rattle.lines.specs.Text.{ended}
 use Rattle.lines.specs.Lines.{linesOf}
+use Rattle.laying.specs.Laying.{ended}
 use Rattle.record.specs.Lines.{lineCount}
-use Rattle.words.specs.Words.{word}
 use lib.ListN.{length}
 use lib.Dec.{eqb}
 use borrow.Author.Tests.{ne-eqb}
 use mathlib.Core.Path.{_≡_, sym, ap, _∙_}
-use Prim.Native.Nat.{_+_, _-_, _*_, _≤_}
 use Rattle.block.proofs.Exact.{ok-long}
-use Rattle.words.specs.Words.{wordsOf}
+use Rattle.words.specs.Words.{wordsOf, word}
 use denote.Ref.{now}
 use native.Mathlib.Omega.{arith}
 use mathlib.Core.List.{List}
-use Prim.Native.Nat.{ℕ}
+use Prim.Native.Nat.{ℕ, _+_, _-_, _*_, _≤_}
 use borrow.Author.Needs.{needs}
 use Rattle.lines.proofs.record_size.Statement.{statement}
 use Rattle.lines.proofs.record_size.Tie as tie

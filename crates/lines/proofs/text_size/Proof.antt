@@ -1,6 +1,7 @@
 use Rattle.lines.proofs.Sizes.{text-bound}
-use Rattle.lines.specs.Text.{ended, textOf}
+use Rattle.lines.specs.Text.{textOf}
 use Rattle.lines.specs.Lines.{linesOf}
+use Rattle.laying.specs.Laying.{ended}
 use Rattle.block.proofs.Placed.{Left, Turn, turn, turn-words, none-left, all-left, most-words}
 use Rattle.block.specs.Records.{recordsOf}
 use Rattle.words.proofs.Laws.{length-wordsOf, all-below}

@@ -1,6 +1,6 @@
 use Rattle.lines.proofs.Sizes.{Sized, sized, Cards, is-cards, cards-are, is-data, data-is}
-use Rattle.lines.specs.Text.{ended}
-use Rattle.lines.specs.Lines.{fieldsOf, cardLines, linesOf}
+use Rattle.lines.specs.Lines.{linesOf}
+use Rattle.laying.specs.Laying.{fieldsOf, cardLines, ended}
 use Rattle.block.proofs.Exact.{ok-long}
 use Rattle.words.proofs.Writing.{Going, start, fits, on, done}
 use Rattle.words.specs.Words.{wordsOf}

@@ -1,5 +1,6 @@
-use Rattle.lines.specs.Text.{ended, textOf}
+use Rattle.lines.specs.Text.{textOf}
 use Rattle.lines.specs.Lines.{linesOf}
+use Rattle.laying.specs.Laying.{ended}
 use Rattle.block.proofs.Placed.{Left, Turn, turn, turn-words, none-left, all-left, most-words}
 use Rattle.block.specs.Records.{recordsOf}
 use Rattle.words.proofs.Writing.{Going, start, fits, on, done}
@@ -9,7 +10,7 @@ use denote.Ref.{now}
 use lib.ListN.{length}
 use borrow.Author.Needs.{needs}
 use native.Mathlib.Omega.{arith}
-use Prim.Native.Nat.{ℕ, _+_, _-_}
+use Prim.Native.Nat.{ℕ, _-_}
 use mathlib.Core.List.{List, _++_}
 use mathlib.Core.Path.{_≡_, sym, ap, _∙_}
 use Rattle.lines.proofs.write_records.Statement.{statement}

@@ -1,7 +1,7 @@
 use mathlib.Core.List.{append-nil}
 use mathlib.Core.Path.{_≡_, refl}
 use lib.ListN.{replicate}
-use Rattle.lines.specs.Lines.{part, times}
+use Rattle.laying.specs.Laying.{part, times}
 use Rattle.reading.specs.Reading.{card}
 use Rattle.reading.specs.State.{toCome, linesLeft}
 use Rattle.reading.proofs.cards_only.Statement.{statement}

@@ -3,7 +3,7 @@ use mathlib.Core.Path.{_≡_, refl, sym, ap, _∙_}
 use mathlib.Core.List.{List, _∷_, _++_, map}
 use Prim.Native.Nat.{ℕ, _-_}
 use lib.ListN.{replicate}
-use Rattle.lines.specs.Lines.{part, times}
+use Rattle.laying.specs.Laying.{part, times}
 use Rattle.reading.specs.Reading.{Shape, card, fields}
 use Rattle.reading.specs.State.{toCome, linesLeft}
 use Rattle.reading.proofs.ToCome.{line-less}

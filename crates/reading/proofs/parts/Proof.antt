@@ -1,6 +1,6 @@
 use mathlib.Core.Path.{_≡_, refl, sym}
 use native.Mathlib.Omega.{arith}
-use Rattle.lines.specs.Lines.{times}
+use Rattle.laying.specs.Laying.{times}
 use Rattle.reading.proofs.ToCome.{times-none}
 use borrow.Author.Needs.{needs}
 use Rattle.reading.proofs.parts.Statement.{statement}

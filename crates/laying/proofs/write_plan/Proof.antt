@@ -1,6 +1,5 @@
-use Rattle.lines.proofs.Turns.{data-text}
-use Rattle.lines.specs.Text.{ended}
-use Rattle.lines.specs.Lines.{fieldsOf, part, times, plan, laid}
+use Rattle.laying.proofs.Turns.{data-text}
+use Rattle.laying.specs.Laying.{fieldsOf, part, times, plan, laid, ended}
 use Rattle.words.proofs.Writing.{Going, start, fits, on, done}
 use Rattle.words.proofs.Laws.{length-wordsOf}
 use Rattle.words.specs.Words.{wordsOf}
@@ -12,8 +11,8 @@ use mathlib.Core.List.{List, [], _∷_, _++_, append-nil}
 use mathlib.Core.Path.{_≡_, refl, sym}
 use Prim.Native.Nat.{ℕ, _+_, _-_}
 use borrow.Author.Needs.{needs}
-use Rattle.lines.proofs.write_plan.Statement.{statement}
-use Rattle.lines.proofs.write_plan.Tie as tie
+use Rattle.laying.proofs.write_plan.Statement.{statement}
+use Rattle.laying.proofs.write_plan.Tie as tie
 
 -- the text and its five pieces
 abbrev shown : tie.After-on-line → List ℕ

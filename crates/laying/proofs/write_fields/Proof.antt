@@ -1,5 +1,5 @@
-use Rattle.lines.proofs.Turns.{fields-turn, no-fields, field-put}
-use Rattle.lines.specs.Lines.{fieldsOf}
+use Rattle.laying.proofs.Turns.{fields-turn, no-fields, field-put}
+use Rattle.laying.specs.Laying.{fieldsOf}
 use Rattle.field.proofs.Written.{length-fieldOf}
 use Rattle.field.specs.Writing.{fieldOf}
 use Rattle.words.proofs.Writing.{Going, start, fits, on, done}
@@ -11,8 +11,8 @@ use native.Mathlib.Omega.{arith}
 use mathlib.Core.List.{_++_}
 use mathlib.Core.Path.{_≡_}
 use Prim.Native.Nat.{_+_, _-_, _≤_}
-use Rattle.lines.proofs.write_fields.Statement.{statement}
-use Rattle.lines.proofs.write_fields.Tie as tie
+use Rattle.laying.proofs.write_fields.Statement.{statement}
+use Rattle.laying.proofs.write_fields.Tie as tie
 
 abbrev Inv-loop : tie.InvT-loop
 Inv-loop whole out₀ place₀ left₀ to₀ out place left to = (place + left ≤ length (wordsOf whole)) × Going out₀ to₀ (fieldsOf (take left₀ (drop place₀ (wordsOf whole)))) out to (fieldsOf (take left (drop place (wordsOf whole))))

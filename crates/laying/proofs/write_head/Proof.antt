@@ -1,7 +1,5 @@
-use mathlib.Core.Path.{sym}
-use mathlib.Core.List.{append-nil}
-use Rattle.lines.proofs.Turns.{head-turn, field-put}
-use Rattle.lines.specs.Lines.{fieldsOf}
+use Rattle.laying.proofs.Turns.{head-turn, field-put}
+use Rattle.laying.specs.Laying.{fieldsOf}
 use Rattle.field.proofs.Written.{length-fieldOf}
 use Rattle.field.specs.Writing.{fieldOf}
 use Rattle.words.proofs.Writing.{Going, start, fits, on, done}
@@ -9,12 +7,12 @@ use Rattle.words.specs.Words.{wordsOf}
 use denote.Ref.{now}
 use lib.ListN.{take, drop}
 use native.Mathlib.Omega.{arith}
-use mathlib.Core.List.{List, [], _∷_, _++_}
-use mathlib.Core.Path.{refl}
+use mathlib.Core.List.{List, [], _∷_, _++_, append-nil}
+use mathlib.Core.Path.{refl, sym}
 use Prim.Native.Nat.{ℕ, _+_, _-_}
 use borrow.Author.Needs.{needs}
-use Rattle.lines.proofs.write_head.Statement.{statement}
-use Rattle.lines.proofs.write_head.Tie as tie
+use Rattle.laying.proofs.write_head.Statement.{statement}
+use Rattle.laying.proofs.write_head.Tie as tie
 
 abbrev words-behind : tie.Start → List ℕ
 words-behind s = fieldsOf (take (s .args .fields .0 - 2) (drop 2 (wordsOf (now (s .args .whole))))) ++ (10 ∷ [])

@@ -1,4 +1,4 @@
-use Rattle.lines.specs.Lines.{fieldsOf}
+use Rattle.laying.specs.Laying.{fieldsOf}
 use Rattle.words.proofs.Writing.{Going, start, fits, on, stored, done}
 use Rattle.words.specs.Words.{wordsOf}
 use denote.Ref.{now}
@@ -8,8 +8,8 @@ use mathlib.Core.List.{List, [], _∷_, _++_}
 use mathlib.Core.Path.{refl}
 use Prim.Native.Nat.{ℕ, _+_, _≤_}
 use borrow.Author.Needs.{needs}
-use Rattle.lines.proofs.write_line.Statement.{statement}
-use Rattle.lines.proofs.write_line.Tie as tie
+use Rattle.laying.proofs.write_line.Statement.{statement}
+use Rattle.laying.proofs.write_line.Tie as tie
 
 abbrev fields : tie.Start → List ℕ
 fields s = fieldsOf (take (s .args .count .0) (drop (s .args .from .0) (wordsOf (now (s .args .whole)))))

@@ -16,8 +16,7 @@ use Rattle.words.proofs.Lists.{part-slice, all-take, all-drop}
 use Rattle.words.proofs.Laws.{bytes-words, words-slice}
 use Rattle.field.specs.Writing.{fieldOf}
 use Rattle.field.proofs.Written.{length-fieldOf}
-use Rattle.lines.specs.Lines.{Line, fieldsOf, shorter, part, times, plan, laid, cardLines}
-use Rattle.lines.specs.Text.{ended}
+use Rattle.laying.specs.Laying.{Line, fieldsOf, shorter, part, times, plan, laid, cardLines, ended}
 
 pub length-fieldsOf : (ws : List ℕ) → length (fieldsOf ws) ≡ 6 * length ws
 unfolding fieldsOf

@@ -1,6 +1,5 @@
-use Rattle.lines.proofs.Turns.{card-turn, no-cards, card-bytes, rows-left}
-use Rattle.lines.specs.Text.{ended}
-use Rattle.lines.specs.Lines.{cardLines}
+use Rattle.laying.proofs.Turns.{card-turn, no-cards, card-bytes, rows-left}
+use Rattle.laying.specs.Laying.{cardLines, ended}
 use Rattle.words.proofs.Writing.{Going, start, fits, on, stored, done}
 use Rattle.words.proofs.Laws.{length-wordsOf, all-below}
 use Rattle.words.specs.Words.{wordsOf}
@@ -10,8 +9,8 @@ use native.Mathlib.Omega.{arith}
 use mathlib.Core.List.{List, [], _∷_, _++_}
 use mathlib.Core.Path.{_≡_, refl, sym, ap, _∙_}
 use Prim.Native.Nat.{ℕ, _+_, _-_, _*_, _≤_}
-use Rattle.lines.proofs.write_cards.Statement.{statement}
-use Rattle.lines.proofs.write_cards.Tie as tie
+use Rattle.laying.proofs.write_cards.Statement.{statement}
+use Rattle.laying.proofs.write_cards.Tie as tie
 
 abbrev Inv-loop : tie.InvT-loop
 Inv-loop whole out₀ place₀ left₀ to₀ out place left to = (place + left * 40 ≤ length (wordsOf whole)) × Going out₀ to₀ (ended (cardLines left₀ (drop place₀ (wordsOf whole)))) out to (ended (cardLines left (drop place (wordsOf whole))))

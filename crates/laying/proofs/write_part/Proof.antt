@@ -1,6 +1,5 @@
-use Rattle.lines.proofs.Turns.{part-line, no-part}
-use Rattle.lines.specs.Text.{ended}
-use Rattle.lines.specs.Lines.{fieldsOf, part, laid}
+use Rattle.laying.proofs.Turns.{part-line, no-part}
+use Rattle.laying.specs.Laying.{fieldsOf, part, laid, ended}
 use Rattle.words.proofs.Writing.{Going, start, fits, on, done}
 use Rattle.words.proofs.Laws.{length-wordsOf}
 use Rattle.words.specs.Words.{wordsOf}
@@ -10,8 +9,8 @@ use native.Mathlib.Omega.{arith}
 use mathlib.Core.List.{List, [], _∷_, _++_}
 use mathlib.Core.Path.{_≡_}
 use Prim.Native.Nat.{ℕ, _+_, _-_, _≤_, _<_}
-use Rattle.lines.proofs.write_part.Statement.{statement}
-use Rattle.lines.proofs.write_part.Tie as tie
+use Rattle.laying.proofs.write_part.Statement.{statement}
+use Rattle.laying.proofs.write_part.Tie as tie
 
 abbrev Inv-loop : tie.InvT-loop
 Inv-loop whole out₀ place₀ left₀ to₀ out place left to = (place + left ≤ length (wordsOf whole)) × Going out₀ (to₀ .0) (ended (laid (part left₀) (drop place₀ (wordsOf whole)))) out (to .0) (ended (laid (part left) (drop place (wordsOf whole))))
