@@ -24,6 +24,9 @@ struct calls {
     uint64_t (*judge)(const uint8_t *, size_t);
     conversion *to_lines, *to_block;
     uint64_t (*prefix)(uint16_t);
+    starting *start;
+    amending *amend;
+    undoing *undo;
 };
 
 static uint64_t judge_nothing(const uint8_t *block, size_t length)
@@ -44,13 +47,35 @@ static uint64_t prefix_nothing(uint16_t instrument)
     return instrument;
 }
 
+static uint64_t start_nothing(uint8_t *sheet, size_t length)
+{
+    return judge_nothing(sheet, length);
+}
+
+static uint64_t amend_nothing(uint8_t *block, size_t block_length, uint8_t *sheet, size_t sheet_length, uint16_t record,
+                              uint16_t word, uint16_t old_value, uint16_t new_value)
+{
+    (void)record;
+    (void)word;
+    (void)old_value;
+    (void)new_value;
+    return convert_nothing(block, block_length, sheet, sheet_length);
+}
+
+static uint64_t undo_nothing(uint8_t *block, size_t block_length, uint8_t *sheet, size_t sheet_length)
+{
+    return convert_nothing(block, block_length, sheet, sheet_length);
+}
+
 enum { LIBRARY, REFERENCE, NOTHING, SETS };
 
 /* The last ones cost what it costs to make a call. */
 static const struct calls sets[SETS] = {
-    {"library", cedar_judge, cedar_to_lines, cedar_to_block, cedar_prefix},
-    {"reference", reference_judge, reference_to_lines, reference_to_block, reference_prefix},
-    {"nothing", judge_nothing, convert_nothing, convert_nothing, prefix_nothing},
+    {"library", cedar_judge, cedar_to_lines, cedar_to_block, cedar_prefix, cedar_sheet_start, cedar_amend, cedar_undo},
+    {"reference", reference_judge, reference_to_lines, reference_to_block, reference_prefix, reference_sheet_start,
+     reference_amend, reference_undo},
+    {"nothing", judge_nothing, convert_nothing, convert_nothing, prefix_nothing, start_nothing, amend_nothing,
+     undo_nothing},
 };
 
 static struct block block;
@@ -61,6 +86,10 @@ static size_t text_length;
 
 /* The block of these lines. */
 static uint8_t written[CEDAR_BLOCK_MOST];
+
+/* The block's sheet, and the last value of its last record. */
+static uint8_t sheet[CEDAR_SHEET_BYTES];
+static uint16_t last_record, last_word, last_value;
 
 static void build_k(void)
 {
@@ -92,15 +121,28 @@ static void build_catalogue(void)
     block_of_most_cards(&block);
 }
 
-/* As many records as a block can have. */
+/* As many records of so many words as a block can have. */
+static void build_equal(struct counts counts, size_t words)
+{
+    block_begin(&block);
+    while (block.words + words < BLOCK_MOST)
+        block_add_data(&block, counts);
+    block_close(&block);
+}
+
 static void build_records(void)
 {
     struct counts least = {PROLOGUE_LEAST, 0, 0, 0};
 
-    block_begin(&block);
-    while (block.words + PROLOGUE_LEAST < BLOCK_MOST)
-        block_add_data(&block, least);
-    block_close(&block);
+    build_equal(least, PROLOGUE_LEAST);
+}
+
+/* Each with a value. */
+static void build_value_records(void)
+{
+    struct counts one_value = {PROLOGUE_LEAST, 1, 0, 0};
+
+    build_equal(one_value, PROLOGUE_LEAST + 2);
 }
 
 /* Refusal 3. */
@@ -165,6 +207,28 @@ static uint64_t prefix_unlisted(const struct calls *calls)
     return calls->prefix(7240);
 }
 
+static uint64_t start_sheet(const struct calls *calls)
+{
+    return calls->start(sheet, sizeof sheet);
+}
+
+static uint64_t amend(const struct calls *calls, uint16_t old_value)
+{
+    return calls->amend(block.bytes, block.length, sheet, sizeof sheet, last_record, last_word, old_value, 905);
+}
+
+/* Both, counted as one call: the next one finds what this one found. */
+static uint64_t amend_and_undo(const struct calls *calls)
+{
+    return amend(calls, last_value) + calls->undo(block.bytes, block.length, sheet, sizeof sheet);
+}
+
+/* Refusal 43. */
+static uint64_t amend_other(const struct calls *calls)
+{
+    return amend(calls, last_value ^ 1);
+}
+
 static const struct task {
     const char *name;
     void (*build)(void);
@@ -188,17 +252,35 @@ static const struct task {
     {"block-k", build_k, to_block},
     {"block-bad-last-line", build_values, to_bad_block},
     {"block-no-room", build_values, to_no_block},
+    {"start-sheet", build_none, start_sheet},
+    {"amend-undo-data", build_values, amend_and_undo},
+    {"amend-undo-records", build_value_records, amend_and_undo},
+    {"amend-undo-k", build_k, amend_and_undo},
+    {"amend-other-value", build_values, amend_other},
     {"prefix-listed", build_none, prefix_listed},
     {"prefix-unlisted", build_none, prefix_unlisted},
 };
 
 enum { TASKS = sizeof tasks / sizeof tasks[0] };
 
-/* The task's block, and its lines if it has any. */
+/* An empty sheet for the block, and the value that is amended. */
+static void prepare_sheet(void)
+{
+    const size_t *start = block.start + block.records;
+
+    reference_sheet_start(sheet, sizeof sheet);
+    last_record = (uint16_t)block.records;
+    last_word = (uint16_t)(start[0] - start[-1]);
+    last_value = word_at(block.bytes, start[0]);
+}
+
+/* The task's block, if it has one, with its sheet, and its lines if it has any. */
 static void prepare(const struct task *task)
 {
     task->build();
     text_length = cedar_a(reference_to_lines(block.bytes, block.length, text, sizeof text));
+    if (block.records > 0)
+        prepare_sheet();
 }
 
 static volatile uint64_t sink;

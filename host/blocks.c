@@ -52,6 +52,15 @@ void block_resize(struct block *block, size_t words)
     block->words = words;
 }
 
+void block_copy(struct block *to, const struct block *from)
+{
+    to->words = from->words;
+    to->length = from->length;
+    to->records = from->records;
+    memcpy(to->start, from->start, sizeof to->start);
+    memcpy(to->bytes, from->bytes, from->length > bytes_of(from->words) ? from->length : bytes_of(from->words));
+}
+
 void block_lend(struct block *block, size_t length)
 {
     if (length > block->length)
@@ -88,6 +97,9 @@ void block_of_k(struct block *block)
     };
 
     block_of(block, words, sizeof words / sizeof words[0]);
+    block->records = 1;
+    block->start[0] = 1;
+    block->start[1] = block->words - 1;
 }
 
 uint8_t *block_of_most_data(struct block *block)

@@ -37,6 +37,9 @@ uint8_t *block_add_cards(struct block *block, uint16_t kind, size_t cards);
 /* Makes the block longer by words of 0, or shorter. */
 void block_resize(struct block *block, size_t words);
 
+/* Copies no more bytes than those of the words and those to lend. */
+void block_copy(struct block *to, const struct block *from);
+
 /* Sets the length alone; bytes that it adds are 0. */
 void block_lend(struct block *block, size_t length);
 

@@ -1,8 +1,9 @@
 /*
- * Compares the library's calls with the reference's, on the examples of document 01 and on blocks and texts by chance.
+ * Compares the library's calls with the reference's, on the examples of document 01, and by chance on blocks and texts
+ * and on amendments.
  *
- *   compare [-s SEED] [-n CASES]   all comparisons, with so many blocks and texts
- *   compare [-s SEED] -c CASE      this block and this text only
+ *   compare [-s SEED] [-n CASES]   all comparisons, with so many blocks, texts and amended blocks
+ *   compare [-s SEED] -c CASE      those of this case only
  */
 #define _POSIX_C_SOURCE 200809L
 #include <inttypes.h>
@@ -12,6 +13,7 @@
 #include <unistd.h>
 
 #include "cedar.h"
+#include "compare_sheet.h"
 #include "generate.h"
 #include "generate_text.h"
 #include "paper.h"
@@ -21,53 +23,50 @@
 /* Bytes of the largest buffer that is lent; TEXT_ROOM is less. */
 enum { ROOM = BLOCK_ROOM };
 
-/* Answers that a block alone decides: 0 to 9. */
-#define BLOCK_ANSWERS UINT64_C(0x3ff)
-
 /* Answers of a text: 0, and 20 to 30. */
 #define TEXT_ANSWERS UINT64_C(0x7ff00001)
 
-static uint64_t make_judge(const struct lent *block)
+static uint64_t make_judge(const struct trial *trial)
 {
-    return cedar_judge(block->copy, block->length);
+    return cedar_judge(trial->lent[0].copy, trial->lent[0].length);
 }
 
-static uint64_t make_to_lines(const struct lent *lent)
+static uint64_t make_to_lines(const struct trial *trial)
 {
-    const struct lent *block = &lent[0], *text = &lent[1];
+    const struct lent *block = &trial->lent[0], *text = &trial->lent[1];
 
     return cedar_to_lines(block->copy, block->length, text->copy, text->length);
 }
 
-static uint64_t make_to_block(const struct lent *lent)
+static uint64_t make_to_block(const struct trial *trial)
 {
-    const struct lent *text = &lent[0], *block = &lent[1];
+    const struct lent *text = &trial->lent[0], *block = &trial->lent[1];
 
     return cedar_to_block(text->copy, text->length, block->copy, block->length);
 }
 
-static struct call judge = {"judge", make_judge, 1, BLOCK_ANSWERS, {0}};
-static struct call to_lines = {"to lines", make_to_lines, 2, BLOCK_ANSWERS | UINT64_C(1) << 29, {0}};
-static struct call to_block = {"to block", make_to_block, 2, TEXT_ANSWERS, {0}};
+static struct call judge = {"judge", make_judge, 1, 0, BLOCK_ANSWERS, {0}};
+static struct call to_lines = {"to lines", make_to_lines, 2, 0, BLOCK_ANSWERS | UINT64_C(1) << 29, {0}};
+static struct call to_block = {"to block", make_to_block, 2, 0, TEXT_ANSWERS, {0}};
 
 /* Buffers that the call must leave as they are. */
 static struct lent lend_block(const struct block *block)
 {
-    struct lent lent = {"block", block->length, block->bytes, block->bytes, NULL, false};
+    struct lent lent = {"block", block->length, block->bytes, block->bytes, NULL, FIRST_BYTES};
 
     return lent;
 }
 
 static struct lent lend_text(const struct text *text)
 {
-    struct lent lent = {"text", text->length, text->bytes, text->bytes, NULL, true};
+    struct lent lent = {"text", text->length, text->bytes, text->bytes, NULL, CHARACTERS};
 
     return lent;
 }
 
 static void compare_judge(struct trials *trials, const struct block *block)
 {
-    struct trial trial = {&judge, reference_judge(block->bytes, block->length), {lend_block(block)}};
+    struct trial trial = {&judge, reference_judge(block->bytes, block->length), {lend_block(block)}, {0}};
 
     try_call(trials, &trial);
 }
@@ -91,8 +90,8 @@ static void compare_output(struct trials *trials, struct chance *chance, struct 
 {
     static uint8_t after[ROOM];
     const uint8_t *before = noise + between(chance, 0, STARTS);
-    struct lent output = {"output", length, before, memcpy(after, before, length), NULL, false};
-    struct trial trial = {call, reference(input.before, input.length, after, length), {input, output}};
+    struct lent output = {"output", length, before, memcpy(after, before, length), NULL, LENGTH_ONLY};
+    struct trial trial = {call, reference(input.before, input.length, after, length), {input, output}, {0}};
 
     try_call(trials, &trial);
 }
@@ -140,8 +139,7 @@ static void check_return(struct trials *trials, const uint8_t *block, size_t len
     uint64_t read = cedar_to_block(text, cedar_a(lined), again, sizeof again);
     bool same = cedar_n(lined) == 0 && read == pack(0, length, 0, 0) && memcmp(again, block, length) == 0;
 
-    if (tally_fails(&trials->tally, same)) {
-        printf("case -s %" PRIu64 " -c %" PRIu64 ", there and back\n", trials->seed, trials->number);
+    if (case_fails(trials, "there and back", same)) {
         print_answer("to lines", lined);
         print_answer("to block", read);
     }
@@ -191,6 +189,7 @@ static void compare_case(struct trials *trials, uint64_t number)
     trials->number = number;
     compare_block(trials, &chance);
     compare_text(trials, &chance);
+    compare_sheet(trials, &chance);
 }
 
 static void compare_all(struct trials *trials, uint64_t cases)
@@ -204,6 +203,7 @@ static void compare_all(struct trials *trials, uint64_t cases)
     print_reached(trials, &judge);
     print_reached(trials, &to_lines);
     print_reached(trials, &to_block);
+    print_sheet_reached(trials);
     printf("%lu passed, %lu failed\n", trials->tally.passed, trials->tally.failed);
 }
 

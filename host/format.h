@@ -1,4 +1,4 @@
-/* The numbers of the binary block and of its lines in document 01. */
+/* The numbers of the binary block, of its lines and of its amendment sheet in document 01. */
 #ifndef FORMAT_H
 #define FORMAT_H
 
@@ -27,6 +27,13 @@ enum { FIELD_COLUMNS = 6, CARD_COLUMNS = 80, LINE_FIELDS = 20 };
 
 /* At most: columns of a line, lines of a Catalogue or Header, words of a block's records, bytes of a text. */
 enum { LINE_COLUMNS = FIELD_COLUMNS * LINE_FIELDS, CARDS_LINES = 199, WORDS_MOST = BLOCK_MOST - 2, TEXT_MOST = 65536 };
+
+/* Bytes of a sheet before its version, count, zero byte and entries, of all of it, and of an entry. */
+enum { BEFORE_VERSION = 3, BEFORE_COUNT = 5, BEFORE_ZERO = 7, BEFORE_ENTRIES = 8, SHEET_BYTES = 520, ENTRY_BYTES = 8 };
+
+/* The mark and the version of a sheet, and the most amendments that stand. */
+#define SHEET_MARK "AMD"
+enum { SHEET_VERSION = 1, STANDING_MOST = 64 };
 
 static inline size_t lines_of_fields(size_t fields)
 {

@@ -3,8 +3,7 @@
 #include "damage.h"
 #include "words.h"
 
-/* Fields of every width, the narrowest and widest numbers of each most of all. */
-static uint16_t any_value(struct chance *chance)
+uint16_t any_value(struct chance *chance)
 {
     static const uint16_t limits[] = {0, 1, 9, 10, 99, 100, 999, 1000, 9999, 10000, 0x7fff, 0x8000};
     uint16_t limit = PICK(chance, limits);
@@ -163,6 +162,37 @@ void generate_good(struct chance *chance, struct block *block)
         build_cards(chance, block);
     else
         generate_words(chance, block, between(chance, BLOCK_LEAST, PICK(chance, mosts)));
+}
+
+/* As many records as a block can have with a value in each. */
+static void build_values(struct chance *chance, struct block *block)
+{
+    struct counts counts = {PROLOGUE_LEAST, 1, 0, 0};
+
+    block_begin(block);
+    while (block->words + counts.lprol + 2 * counts.jpar < BLOCK_MOST)
+        add_data(chance, block, counts);
+    block_close(block);
+}
+
+/* One Data record of the most words, whose parts are as chance wants them. */
+static void build_record(struct chance *chance, struct block *block)
+{
+    block_begin(block);
+    add_data(chance, block, counts_of(chance, WORDS_MOST));
+    block_close(block);
+}
+
+void generate_amendable(struct chance *chance, struct block *block)
+{
+    if (one_in(chance, 60))
+        build_values(chance, block);
+    else if (one_in(chance, 60))
+        build_record(chance, block);
+    else if (one_in(chance, 4))
+        build_mixed(chance, block);
+    else
+        generate_good(chance, block);
 }
 
 /* The block of the longest text, of about the most words, or of about the least. */

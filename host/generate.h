@@ -10,9 +10,13 @@
 /* The chance of a case: the same for the same seed and number, whatever was drawn before. */
 struct chance case_chance(uint64_t seed, uint64_t number);
 
-/* A good block of so many words, and a mostly small one. */
+/* A word, the narrowest and widest numbers of each width of a field most of all. */
+uint16_t any_value(struct chance *chance);
+
+/* A good block of so many words, a mostly small one, and one that is likely to have values. */
 void generate_words(struct chance *chance, struct block *block, size_t words);
 void generate_good(struct chance *chance, struct block *block);
+void generate_amendable(struct chance *chance, struct block *block);
 
 /* The block of a case, made with its chance. */
 void generate_block(struct chance *chance, uint64_t number, struct block *block);

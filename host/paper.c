@@ -260,6 +260,119 @@ static void check_most_lines(struct tally *tally)
     check_read(tally, "line 65,536 with a bad byte", text, TEXT_MOST, pack(20, TEXT_MOST, 1, 0));
 }
 
+/* The calls on a sheet, of the library or of the reference; and K with its sheet, which they change. */
+struct sheet_calls {
+    starting *start;
+    amending *amend;
+    undoing *undo;
+};
+
+struct amended_k {
+    const struct sheet_calls *calls;
+    struct block block;
+    uint8_t sheet[SHEET_BYTES];
+};
+
+static void begin_k(struct amended_k *k, const struct sheet_calls *calls)
+{
+    k->calls = calls;
+    block_of_k(&k->block);
+    memset(k->sheet, '*', sizeof k->sheet);
+    calls->start(k->sheet, sizeof k->sheet);
+}
+
+static uint64_t amend_k(struct amended_k *k, uint16_t word, uint16_t old_value, uint16_t new_value)
+{
+    return k->calls->amend(k->block.bytes, k->block.length, k->sheet, sizeof k->sheet, 1, word, old_value, new_value);
+}
+
+static uint64_t undo_k(struct amended_k *k)
+{
+    return k->calls->undo(k->block.bytes, k->block.length, k->sheet, sizeof k->sheet);
+}
+
+static bool is_untouched(const struct amended_k *k)
+{
+    static const uint8_t empty[SHEET_BYTES] = {'A', 'M', 'D', 0, 1};
+    static struct block block;
+
+    block_of_k(&block);
+    return memcmp(k->block.bytes, block.bytes, block.length) == 0 && memcmp(k->sheet, empty, sizeof empty) == 0;
+}
+
+/* K's text, but for these columns of word 22. */
+static bool shows(const struct amended_k *k, const char *columns)
+{
+    static struct block block;
+    uint8_t text[K_TEXT], expected[K_TEXT];
+
+    k_with(&block, expected, BEFORE_VALUE, columns);
+    return cedar_to_lines(k->block.bytes, k->block.length, text, sizeof text) == pack(0, K_TEXT, 0, 0) &&
+           memcmp(text, expected, sizeof text) == 0;
+}
+
+/* Examples 3 and 4. */
+static void check_amended(struct tally *tally, const struct sheet_calls *calls)
+{
+    static const uint8_t one_entry[] = {'A', 'M', 'D', 0, 1, 0, 1, 0, 0, 1, 0, 0x16, 3, 0x84, 3, 0x89};
+    static struct amended_k k;
+
+    begin_k(&k, calls);
+    check(tally, "a started sheet", is_untouched(&k));
+    check(tally, "example 3", amend_k(&k, 22, 900, 905) == pack(0, 1, 0, 0));
+    check(tally, "example 3, checksum", word_at(k.block.bytes, k.block.words) == (uint16_t)-32527);
+    check(tally, "example 3, line 5", shows(&k, "   905"));
+    check(tally, "example 3, entry", memcmp(k.sheet, one_entry, sizeof one_entry) == 0);
+    check(tally, "example 4", undo_k(&k) == pack(0, 0, 0, 0) && is_untouched(&k));
+    check(tally, "an empty sheet", undo_k(&k) == pack(45, 0, 0, 0) && is_untouched(&k));
+}
+
+/* Example 5, and the other words about K's values. */
+static void check_places(struct tally *tally, const struct sheet_calls *calls)
+{
+    static const uint16_t others[] = {0, 1, 16, 17, 19, 20, 25, 26, 65535};
+    static struct amended_k k;
+
+    begin_k(&k, calls);
+    check(tally, "example 5, old value", amend_k(&k, 22, 901, 905) == pack(43, 900, 0, 0));
+    for (size_t i = 0; i < sizeof others / sizeof others[0]; i++)
+        check(tally, "example 5, no value", amend_k(&k, others[i], 550, 0) == pack(42, 0, 0, 0));
+    check(tally, "example 5, untouched", is_untouched(&k));
+    check(tally, "K's 1-D value", amend_k(&k, 18, 285, 0) == pack(0, 1, 0, 0));
+    check(tally, "K's first 2-D value", amend_k(&k, 21, 250, 0) == pack(0, 2, 0, 0));
+    check(tally, "K's last 2-D value", amend_k(&k, 24, (uint16_t)-32767, 0) == pack(0, 3, 0, 0));
+}
+
+/* Example 9: 64 amendments of one place, one more, and all undone, the last one first. */
+static void check_full(struct tally *tally, const struct sheet_calls *calls)
+{
+    static struct amended_k k;
+    uint16_t standing;
+
+    begin_k(&k, calls);
+    for (standing = 0; standing < STANDING_MOST; standing++)
+        check(tally, "example 9, amendments",
+              amend_k(&k, 22, 900 + standing, 901 + standing) == pack(0, 1u + standing, 0, 0));
+    check(tally, "example 9, a 65th amendment", amend_k(&k, 22, 964, 965) == pack(44, 0, 0, 0) && shows(&k, "   964"));
+    while (standing-- > 0)
+        check(tally, "undoing of one place", undo_k(&k) == pack(0, standing, 0, 0));
+    check(tally, "all undone", is_untouched(&k));
+}
+
+static void check_sheet(struct tally *tally)
+{
+    static const struct sheet_calls both[] = {
+        {cedar_sheet_start, cedar_amend, cedar_undo},
+        {reference_sheet_start, reference_amend, reference_undo},
+    };
+
+    for (size_t i = 0; i < sizeof both / sizeof both[0]; i++) {
+        check_amended(tally, &both[i]);
+        check_places(tally, &both[i]);
+        check_full(tally, &both[i]);
+    }
+}
+
 static void check_prefix(struct tally *tally, uint16_t instrument, const char *letters)
 {
     uint64_t answer = pack(0, (uint8_t)letters[0], (uint8_t)letters[1], (uint8_t)letters[2]);
@@ -277,6 +390,7 @@ void check_paper(struct tally *tally)
     check_line_counts(tally);
     check_most_lines(tally);
     check_examples(tally);
+    check_sheet(tally);
     check_prefix(tally, 30, "MLH");
     check_prefix(tally, 5140, "AQF");
     check_prefix(tally, 7240, "---");

@@ -13,9 +13,18 @@ static inline uint64_t pack(uint64_t n, uint64_t a, uint64_t b, uint64_t c)
 /* A call that writes one buffer from another. */
 typedef uint64_t conversion(const uint8_t *input, size_t input_length, uint8_t *output, size_t output_length);
 
+/* The calls on an amendment sheet. */
+typedef uint64_t starting(uint8_t *sheet, size_t length);
+typedef uint64_t amending(uint8_t *block, size_t block_length, uint8_t *sheet, size_t sheet_length, uint16_t record,
+                          uint16_t word, uint16_t old_value, uint16_t new_value);
+typedef uint64_t undoing(uint8_t *block, size_t block_length, uint8_t *sheet, size_t sheet_length);
+
 uint64_t reference_judge(const uint8_t *block, size_t length);
 uint64_t reference_to_lines(const uint8_t *block, size_t block_length, uint8_t *text, size_t text_length);
 uint64_t reference_to_block(const uint8_t *text, size_t text_length, uint8_t *block, size_t block_length);
 uint64_t reference_prefix(uint16_t instrument);
+starting reference_sheet_start;
+amending reference_amend;
+undoing reference_undo;
 
 #endif

@@ -18,7 +18,7 @@ static void make_call(void *context)
 {
     struct outcome *outcome = context;
 
-    outcome->answer = outcome->trial->call->make(outcome->trial->lent);
+    outcome->answer = outcome->trial->call->make(outcome->trial);
 }
 
 static struct outcome outcome_at(enum guard_end end, const struct guard *guards, struct trial *trial)
@@ -91,13 +91,36 @@ static void print_characters(const uint8_t *bytes, size_t length)
             printf(bytes[i] >= ' ' && bytes[i] <= '~' ? "%c" : "<%02x>", bytes[i]);
 }
 
-/* With its first bytes, if the call only reads it. */
 static void print_lent(const struct lent *lent)
 {
     printf("  %s, %zu bytes", lent->name, lent->length);
-    if (lent->before == lent->after)
-        (lent->characters ? print_characters : print_bytes)(lent->before, lent->length);
+    if (lent->look == FIRST_BYTES)
+        print_bytes(lent->before, lent->length);
+    else if (lent->look == CHARACTERS)
+        print_characters(lent->before, lent->length);
     printf("\n");
+}
+
+static void print_numbers(const struct trial *trial)
+{
+    printf("  numbers");
+    for (size_t i = 0; i < trial->call->numbers; i++)
+        printf(" %" PRIu16, trial->numbers[i]);
+    printf("\n");
+}
+
+static void print_case(const struct trials *trials, const char *what)
+{
+    printf("case -s %" PRIu64 " -c %" PRIu64 ", %s\n", trials->seed, trials->number, what);
+}
+
+bool case_fails(struct trials *trials, const char *what, bool holds)
+{
+    bool fails = tally_fails(&trials->tally, holds);
+
+    if (fails)
+        print_case(trials, what);
+    return fails;
 }
 
 void try_call(struct trials *trials, struct trial *trial)
@@ -108,9 +131,11 @@ void try_call(struct trials *trials, struct trial *trial)
     trial->call->reached[cedar_n(trial->answer)]++;
     if (!tally_fails(&trials->tally, is_right(&first) && is_right(&second)) && !trials->shown)
         return;
-    printf("case -s %" PRIu64 " -c %" PRIu64 ", %s\n", trials->seed, trials->number, trial->call->name);
+    print_case(trials, trial->call->name);
     for (size_t i = 0; i < trial->call->buffers; i++)
         print_lent(&trial->lent[i]);
+    if (trial->call->numbers > 0)
+        print_numbers(trial);
     print_answer("reference", trial->answer);
     print_outcome(&first);
     print_outcome(&second);

@@ -12,21 +12,29 @@
 /* More than the largest n of an answer. */
 enum { ANSWERS = 47 };
 
-/* The most buffers that a call is lent. */
-enum { LENT_MOST = 2 };
+/* Answers that a block alone decides, 0 to 9, as bits. */
+#define BLOCK_ANSWERS UINT64_C(0x3ff)
+
+/* The most buffers that a call is lent, and the most numbers that it is given beside them. */
+enum { LENT_MOST = 2, NUMBERS_MOST = 4 };
+
+/* How a buffer is printed. */
+enum look { LENGTH_ONLY, FIRST_BYTES, CHARACTERS };
 
 struct lent {
     const char *name;
     size_t length;
     const uint8_t *before, *after; /* what the call finds, and what it must leave */
     uint8_t *copy;                 /* what the call is lent, while it is tried */
-    bool characters;               /* how it is printed */
+    enum look look;
 };
+
+struct trial;
 
 struct call {
     const char *name;
-    uint64_t (*make)(const struct lent *);
-    size_t buffers;
+    uint64_t (*make)(const struct trial *);
+    size_t buffers, numbers;
     uint64_t gives;                 /* has bit n for each answer n that the call can give */
     unsigned long reached[ANSWERS]; /* trials in which each was due */
 };
@@ -35,6 +43,7 @@ struct trial {
     struct call *call;
     uint64_t answer; /* the one that is due */
     struct lent lent[LENT_MOST];
+    uint16_t numbers[NUMBERS_MOST];
 };
 
 /* What trials share. */
@@ -47,6 +56,9 @@ struct trials {
 
 /* Makes the call at both ends of the guards, so that what it reads or writes beside its buffers traps. */
 void try_call(struct trials *trials, struct trial *trial);
+
+/* Counts one check of the case that is tried; true if it failed and the case was printed, with what was checked. */
+bool case_fails(struct trials *trials, const char *what, bool holds);
 
 void print_answer(const char *whose, uint64_t answer);
 

@@ -1,8 +1,8 @@
 /*
  * cedar.h: the C calls of Nalungkep, a proved converter for CEDAR radar data.
  *
- * The library judges binary blocks of the CEDAR database format, writes their lines, reads lines back to a block and
- * finds instruments' prefixes.
+ * The library judges binary blocks of the CEDAR database format, writes their lines, reads lines back to a block,
+ * amends a block's values and undoes that, and finds instruments' prefixes.
  * It is proved, for every input, to answer as written here.
  * Link x86-64 programs with libcedar.a; it needs no other library.
  *
@@ -52,6 +52,12 @@
  *   Columns after a line's last field, or after a card's column 80, are blank.
  *   A blank line has no byte or only blanks. It may stand before, between and after records; in a record it is a card,
  *   or a line of Data whose fields are bad.
+ *
+ * A sheet
+ *   is 520 bytes that keep a block's amendments, so that they can be undone; its numbers are 16 bits, high byte first.
+ *   It has the mark "AMD", the version 1, the count of the amendments that stand, 0 to 64, and one zero byte.
+ *   Then 64 entries of four numbers each: record, word in the record, old value, new value; oldest first.
+ *   Entries past the count are zero.
  *
  * An answer
  *   is four numbers n, a, b, c in one: 2^56 n + 2^32 a + 2^16 b + c.
@@ -151,6 +157,62 @@ enum { CEDAR_READ_MOST = 65536, CEDAR_BLOCK_MOST = 16000 };
  * Bytes of the block past those written stay as they are.
  */
 uint64_t cedar_to_block(const uint8_t *text, size_t text_length, uint8_t *block, size_t block_length);
+
+/* Bytes of a sheet, and the amendments that it has room for. */
+enum { CEDAR_SHEET_BYTES = 520, CEDAR_AMENDMENTS_MOST = 64 };
+
+/*
+ * Writes an empty sheet to the `length` bytes at `sheet`, whatever they hold.
+ *
+ *   n   given when                                         a               b               c
+ *   0   the sheet is written
+ *   40  length is not 520
+ */
+uint64_t cedar_sheet_start(uint8_t *sheet, size_t length);
+
+/*
+ * Puts `new_value` for `old_value` at word `word` of record `record` of the block in the `block_length` bytes at `block`,
+ * which must be exactly one block, and enters that in the sheet in the `sheet_length` bytes at `sheet`.
+ * Values are passed as words, 0 to 65,535: -5 as 65,531. The new one may be the old one.
+ * Only 1-D and 2-D values of Data can be amended: in a record
+ *   words LPROL + JPAR + 1 to LPROL + 2 JPAR, and words LPROL + 2 JPAR + MPAR + 1 to LTOT.
+ *
+ *   n       given when                                     a               b               c
+ *   0       the value is amended                           standing
+ *   1 to 9  cedar_judge refuses the block                  as there        as there        as there
+ *   40      sheet_length is not 520, or the sheet's mark,
+ *           version, count or zero byte is wrong, or an
+ *           entry past the count is not zero
+ *   41      the block has no such record
+ *   42      that word is no value of a Data record
+ *   43      old_value is not what stands there             the word found
+ *   44      64 amendments stand
+ *
+ * Tried in this order: 1 to 9, 40, 44, 41, 42, 43; the first that holds is the answer.
+ * Standing is the count of amendments after the call. The entries up to the count are not tested.
+ * The block's checksum is kept right; its other words and the sheet's other entries stay as they are.
+ */
+uint64_t cedar_amend(uint8_t *block, size_t block_length, uint8_t *sheet, size_t sheet_length, uint16_t record,
+                     uint16_t word, uint16_t old_value, uint16_t new_value);
+
+/*
+ * Puts the old value of the sheet's last entry back at its place in the block, clears the entry to zero, and lowers the
+ * count by one. The buffers are those of cedar_amend. Where only these two calls changed them, as many undos as
+ * amendments stand give back the block and the empty sheet that were there at first.
+ *
+ *   n       given when                                     a               b               c
+ *   0       the amendment is undone                        standing
+ *   1 to 9  cedar_judge refuses the block                  as there        as there        as there
+ *   40      as for cedar_amend
+ *   45      no amendment stands
+ *   46      the last entry names no value of a Data
+ *           record, or its new value does not stand there
+ *
+ * Tried in this order: 1 to 9, 40, 45, 46; the first that holds is the answer.
+ * Standing is the count of amendments after the call. The entries before the last are not tested.
+ * The block's checksum is kept right; its other words and the sheet's other entries stay as they are.
+ */
+uint64_t cedar_undo(uint8_t *block, size_t block_length, uint8_t *sheet, size_t sheet_length);
 
 /*
  * Finds the data volume prefix of an instrument, given as word 3 of its records, 0 to 65,535.
