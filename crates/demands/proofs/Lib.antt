@@ -1,6 +1,7 @@
 pub mod Demand1
 pub mod SheetAnswers
 pub mod Demand2
+pub mod Sheets
 pub mod Demand3
 pub mod Records
 pub mod Lines

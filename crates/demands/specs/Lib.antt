@@ -6,4 +6,5 @@ pub mod Lines
 pub mod ExclusiveOr
 pub mod Examples
 pub mod Agree
+pub mod Sheets
 pub mod Demand3
