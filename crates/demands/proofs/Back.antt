@@ -19,7 +19,8 @@ use Rattle.field.specs.Reading.{columns, readField}
 use Rattle.units.proofs.Choosing.{both-ways}
 use Rattle.laying.specs.Laying.{Line}
 use Rattle.columns.specs.Columns.{badColumn, inkFrom, inkAfter, blankAfter, wordIn, number, numbers, blankField, zeroField, zeros}
-use Rattle.reading.specs.Reading.{Shape, card, fields, gives, firstLine, rowFields, inState, lineStep, readLines}
+use Rattle.heading.specs.Heading.{Shape, card, fields, gives, firstLine}
+use Rattle.reading.specs.Reading.{rowFields, inState, lineStep, readLines}
 use Rattle.text.specs.Spelled.{Printed, Readable, Blanks, Spells, SpellsAll, SpellsZero, LineSpells, LinesSpell, no-lines, a-line}
 use Rattle.text.proofs.Columns.{no-ink, ink-turn}
 

@@ -15,7 +15,8 @@ use Rattle.record.proofs.Passed.{least-at}
 use Rattle.laying.specs.Laying.{Line}
 use Rattle.lines.specs.Lines.{dataPlan, kindShown}
 use Rattle.lines.proofs.Sizes.{is-cards, is-data, data-count}
-use Rattle.reading.specs.Reading.{card, fields, gives, cardsLine, countsIn, planLine, catalogueLine, headerFields, headerLine, countFields, prologueFields, dataLine, kindLine, firstLine, inState}
+use Rattle.heading.specs.Heading.{card, fields, gives, cardsLine, countsIn, planLine, catalogueLine, headerFields, headerLine, countFields, prologueFields, dataLine, kindLine, firstLine}
+use Rattle.reading.specs.Reading.{inState}
 use Rattle.text.specs.Spelled.{Blanks, SpellsAll, CardsSpelled}
 use Rattle.demands.proofs.Back.{blank-back, first-line, numbers-back, zeros-back}
 

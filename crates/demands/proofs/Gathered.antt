@@ -14,7 +14,7 @@ use Rattle.field.specs.Reading.{columns}
 use Rattle.laying.specs.Laying.{Line}
 use Rattle.lines.specs.Lines.{dataPlan, kindShown, shown}
 use Rattle.lines.proofs.Sizes.{is-cards, data-count}
-use Rattle.reading.specs.Reading.{Shape, card, fields, Read}
+use Rattle.heading.specs.Heading.{Shape, card, fields, Read}
 use Rattle.text.specs.Spelled.{Printed, Readable, LineSpells, LinesSpell, no-lines, a-line, CardsSpelled, RecordSpelled, as-catalogue, as-header, as-data}
 use Rattle.columns.proofs.Columns.{columns-all}
 use Rattle.text.proofs.Columns.{card-words, words-below}

@@ -21,7 +21,8 @@ use Rattle.block.specs.Rules.{IsBlock}
 use Rattle.block.proofs.Exact.{some-record, every-good}
 use Rattle.laying.specs.Laying.{Line}
 use Rattle.cutting.specs.Cutting.{linesIn}
-use Rattle.reading.specs.Reading.{Shape, Read, lineStep, atEnd, readLines}
+use Rattle.heading.specs.Heading.{Shape, Read}
+use Rattle.reading.specs.Reading.{lineStep, atEnd, readLines}
 use Rattle.text.specs.Block.{readText, toBlock}
 use Rattle.text.specs.Spelled.{Readable, Blanks, LinesSpell, no-lines, a-line, Spelled, at-end, blank-line, a-record}
 use Rattle.text.proofs.Told.{Known}

@@ -27,7 +27,7 @@ use Rattle.lines.specs.Text.{textOf}
 use Rattle.lines.proofs.Sizes.{sized, is-cards, cards-lines, data-lines, fieldsIn-plan, text-most}
 use Rattle.cutting.specs.Cutting.{onto, linesIn, endLength}
 use Rattle.columns.proofs.Columns.{columns-full}
-use Rattle.reading.specs.Reading.{card, fields}
+use Rattle.heading.specs.Heading.{card, fields}
 use Rattle.text.specs.Block.{readText}
 use Rattle.text.specs.Spelled.{Printed, Readable, Blanks, Spells, SpellsAll, LineSpells, LinesSpell, no-lines, a-line, CardsSpelled, RecordSpelled, as-catalogue, as-header, as-data, Spelled, at-end, a-record}
 use Rattle.demands.proofs.Lines.{line-width}

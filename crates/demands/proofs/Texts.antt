@@ -15,7 +15,8 @@ use Rattle.block.proofs.Exact.{ok-long}
 use Rattle.laying.specs.Laying.{Line}
 use Rattle.lines.specs.Lines.{dataPlan, kindShown, shown}
 use Rattle.lines.proofs.Sizes.{is-data}
-use Rattle.reading.specs.Reading.{Shape, card, fields, gives, inState, atEnd, readLines}
+use Rattle.heading.specs.Heading.{Shape, card, fields, gives}
+use Rattle.reading.specs.Reading.{inState, atEnd, readLines}
 use Rattle.text.specs.Block.{readText}
 use Rattle.text.specs.Spelled.{Readable, LineSpells, LinesSpell, a-line, RecordSpelled, as-catalogue, as-header, as-data, Spelled, at-end, blank-line, a-record}
 use Rattle.text.proofs.Opened.{plan-turn}

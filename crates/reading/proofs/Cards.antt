@@ -1,18 +1,14 @@
 -- The 80 columns of a card.
-use mathlib.Core.Path.{_≡_, refl, sym, ap, ap₂, _∙_}
-use mathlib.Core.Bool.{Bool, true, false}
-use mathlib.Core.List.{List, [], _∷_, _++_, append-nil}
-use Prim.Native.Nat.{ℕ, zero, suc, _+_, _-_, _*_, _≤_, _<_}
+use mathlib.Core.Path.{_≡_, _∙_}
+use mathlib.Core.List.{List, _++_}
+use Prim.Native.Nat.{ℕ, _-_, _≤_, _<_}
 use native.Mathlib.Omega.{arith}
-use borrow.Author.Tests.{ltb-true, ltb-false}
-use lib.Dec.{ltb}
-use lib.ListN.{length, getD, take, drop, replicate, drop-of-length-le, List·getD-eq-default}
-use lib.Seq.{sets, drop-cons, take-nil, take-all}
+use lib.ListN.{length, take, replicate}
+use lib.Seq.{take-all}
 use Rattle.words.specs.Words.{wordsOf, bytesOf, Below}
 use Rattle.words.proofs.Laws.{bytes-words}
 use Rattle.field.specs.Reading.{columns}
 use Rattle.columns.proofs.Columns.{length-columns, columns-are, columns-all, columns-full}
-use Rattle.reading.specs.State.{put}
 
 -- a card's words are its 80 columns
 pub card-bytes : (l : List ℕ) → Below 256 l → bytesOf (wordsOf (columns 80 l 0)) ≡ columns 80 l 0

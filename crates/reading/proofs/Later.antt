@@ -1,7 +1,7 @@
 -- A later line of a record, by what is to come.
 use mathlib.Core.Path.{_≡_}
-use mathlib.Core.List.{List, [], _∷_}
-use Prim.Native.Nat.{ℕ, _+_, _*_}
+use mathlib.Core.List.{List, _∷_}
+use Prim.Native.Nat.{ℕ}
 use native.Mathlib.Omega.{arith}
 use lib.ListN.{length}
 use Rattle.units.specs.Answers.{onward}
@@ -9,7 +9,8 @@ use Rattle.words.specs.Words.{wordsOf}
 use Rattle.words.proofs.Laws.{length-wordsOf}
 use Rattle.field.specs.Reading.{columns}
 use Rattle.columns.specs.Columns.{blankAfter}
-use Rattle.reading.specs.Reading.{Shape, card, fields, gives, rowFields, inState}
+use Rattle.heading.specs.Heading.{Shape, card, fields, gives}
+use Rattle.reading.specs.Reading.{rowFields, inState}
 use Rattle.columns.proofs.Columns.{length-columns}
 
 module _ (num so : ℕ) (l : List ℕ) (here rest : List Shape) where

@@ -1,15 +1,14 @@
 -- The lines to come of a record, as they get fewer.
-use mathlib.Core.Path.{_≡_, refl, sym, ap, ap₂, _∙_}
-use mathlib.Core.List.{List, [], _∷_, _++_, map, append-assoc, append-nil}
-use Prim.Native.Nat.{ℕ, zero, suc, _+_, _-_, _<_, min}
+use mathlib.Core.Path.{_≡_, refl, ap, ap₂, _∙_}
+use mathlib.Core.List.{List, [], _∷_, _++_, map, append-assoc}
+use Prim.Native.Nat.{ℕ, zero, suc, _-_, _<_, min}
 use native.Mathlib.Omega.{arith}
-use native.Mathlib.Numerals.{add-one}
-use lib.ListN.{length, drop, replicate}
-use Rattle.laying.specs.Laying.{part, times, plan}
-use Rattle.laying.proofs.Turns.{part-turn}
-use Rattle.reading.specs.declared.Plan.{Plan}
-use Rattle.reading.specs.Reading.{card, fields}
-use Rattle.reading.specs.State.{linesLeft, toCome}
+use lib.ListN.{replicate}
+use Rattle.laying.specs.Laying.{part, times}
+use Rattle.heading.specs.declared.Plan.{Plan}
+use Rattle.heading.specs.Heading.{card, fields}
+use Rattle.heading.specs.State.{linesLeft, toCome}
+use Rattle.heading.proofs.ToCome.{line-less}
 
 -- parts without fields take no lines
 pub times-none : (n w : ℕ) → w ≡ 0 → times n (part w) ≡ []
@@ -23,18 +22,6 @@ unfolding times part
 next-part left n w ns e h =
     let s : n ≡ suc (n - 1) = omega arith in
     rw e (ap (λ k. times k (part w) ++ ns) s ∙ append-assoc (part w) (times (n - 1) (part w)) ns)
-
--- a line of the present part
-pub line-less : (left : ℕ) (ns : List ℕ) → 0 < left → part left ++ ns ≡ min left 20 ∷ (part (left - min left 20) ++ ns)
-line-less left ns h = ap (λ l. l ++ ns) (part-turn left h)
-
--- the first line of a Data record, and those behind it
-pub plan-less : (lprol jpar mpar nrow : ℕ) → 0 < lprol →
-    drop 1 (plan lprol jpar mpar nrow) ≡ part (lprol - min lprol 20) ++ (times 2 (part jpar) ++ times (nrow + 1) (part mpar))
-unfolding plan times
-plan-less lprol jpar mpar nrow h =
-    ap (drop 1) (line-less lprol (part jpar ++ (part jpar ++ times (nrow + 1) (part mpar))) h)
-    ∙ ap (λ l. part (lprol - min lprol 20) ++ l) (sym (ap (λ l. l ++ times (nrow + 1) (part mpar)) (ap (λ l. part jpar ++ l) (append-nil (part jpar))) ∙ append-assoc (part jpar) (part jpar) (times (nrow + 1) (part mpar))))
 
 -- the same of the last sort
 pub next-row : (left n w : ℕ) → left ≡ 0 → 0 < n → part w ++ times (n - 1) (part w) ≡ part left ++ times n (part w)

@@ -8,7 +8,8 @@ use lib.Dec.{eqb}
 use Rattle.units.specs.Choice.{if_then_else_}
 use Rattle.units.specs.Answers.{answer, Verdict, passed, refused}
 use Rattle.words.specs.Words.{bytesOf}
-use Rattle.reading.specs.Reading.{Shape, atEnd}
+use Rattle.heading.specs.Heading.{Shape}
+use Rattle.reading.specs.Reading.{atEnd}
 use Rattle.text.specs.Content.{Kept, kept}
 
 module _ (num so : ℕ) (b : List ℕ) {here : List Shape} where

@@ -16,7 +16,8 @@ use Rattle.words.proofs.Sealing.{length-framed}
 use Rattle.words.proofs.Writing.{written-told}
 use Rattle.laying.specs.Laying.{Line}
 use Rattle.cutting.specs.Cutting.{onto, linesIn, endLength}
-use Rattle.reading.specs.Reading.{Shape, Read, lineStep, atEnd, readLines}
+use Rattle.heading.specs.Heading.{Shape, Read}
+use Rattle.reading.specs.Reading.{lineStep, atEnd, readLines}
 use Rattle.text.specs.Block.{readText, toBlock}
 use Rattle.text.proofs.Told.{told, Known, then-known}
 use Rattle.units.proofs.Choosing.{by-test, both-ways}

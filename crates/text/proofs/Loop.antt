@@ -9,14 +9,15 @@ use Rattle.units.specs.Answers.{Verdict, passed, refused, onward}
 use Rattle.units.proofs.Verdicts.{never-passed}
 use Rattle.columns.specs.declared.Flaw.{Flaw}
 use Rattle.columns.specs.Cases.{flawOf}
-use Rattle.reading.specs.Reading.{Shape, Read, lineStep, readLines}
-use Rattle.reading.specs.State.{Stand, toCome, put, after, stepOf, Near}
+use Rattle.heading.specs.Heading.{Shape, Read}
+use Rattle.reading.specs.Reading.{lineStep, readLines}
+use Rattle.heading.specs.State.{Stand, toCome, put, after, stepOf, Near}
 use Rattle.text.specs.Content.{Kept, kept}
-use Rattle.reading.specs.declared.Plan.{Plan}
-use Rattle.reading.specs.declared.Step.{Step}
-use Rattle.reading.specs.declared.Step.the-variants.{Next, Refused}
+use Rattle.heading.specs.declared.Plan.{Plan}
+use Rattle.heading.specs.declared.Step.{Step}
+use Rattle.heading.specs.declared.Step.the-variants.{Next, Refused}
 use Rattle.cutting.specs.Cutting.{linesIn}
-use Rattle.reading.proofs.Heads.{put-append}
+use Rattle.heading.proofs.Heads.{put-append}
 
 -- words that are read in two parts
 kept-both : (so : ℕ) (b ws : List ℕ) (v : Verdict (List ℕ)) → kept so b (onward v (λ vs. passed (ws ++ vs))) ≡ kept (so + length ws) (put so b ws) v

@@ -23,7 +23,8 @@ use Rattle.lines.specs.Lines.{dataPlan}
 use Rattle.lines.proofs.Sizes.{fieldsIn-plan}
 use Rattle.columns.specs.Columns.{badColumn, inkFrom, blankAfter, columnOf, numbers, zeros}
 use Rattle.reading.proofs.Later.{card-size}
-use Rattle.reading.specs.Reading.{Shape, card, fields, Read, gives, cardsLine, countsIn, planLine, headerFields, countFields, prologueFields, catalogueLine, headerLine, dataLine, kindLine, firstLine, rowFields, inState, lineStep}
+use Rattle.heading.specs.Heading.{Shape, card, fields, Read, gives, cardsLine, countsIn, planLine, headerFields, countFields, prologueFields, catalogueLine, headerLine, dataLine, kindLine, firstLine}
+use Rattle.reading.specs.Reading.{rowFields, inState, lineStep}
 use Rattle.text.specs.Spelled.{Readable, Blanks, SpellsAll, SpellsZero, LineSpells}
 use Rattle.text.proofs.Told.{Told, told, Known, then-known, known-as}
 use Rattle.units.proofs.Choosing.{by-test}

@@ -19,7 +19,7 @@ use Rattle.columns.specs.Cases.{flawOf}
 use Rattle.cutting.specs.Cutting.{linesIn}
 use Rattle.reading.specs.Reading.{readLines}
 use Rattle.text.specs.Block.{readText, wordsIn, toBlock}
-use Rattle.reading.specs.State.{put}
+use Rattle.heading.specs.State.{put}
 use Rattle.text.specs.Content.{Kept, kept, keptOf}
 use Rattle.text.specs.Cases.{contentOf}
 use Rattle.text.specs.declared.Content.{Content}

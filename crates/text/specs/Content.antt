@@ -5,8 +5,9 @@ use mathlib.Core.List.{List}
 use lib.ListN.{length}
 use Rattle.units.specs.Answers.{Verdict, passed, refused, onward}
 use Rattle.columns.specs.Cases.{flawOf}
-use Rattle.reading.specs.Reading.{Shape, atEnd}
-use Rattle.reading.specs.State.{put}
+use Rattle.heading.specs.Heading.{Shape}
+use Rattle.reading.specs.Reading.{atEnd}
+use Rattle.heading.specs.State.{put}
 use Rattle.text.specs.declared.Content.{Content}
 use Rattle.text.specs.declared.Content.the-variants.{Records, Flawed}
 

@@ -11,7 +11,7 @@ use Rattle.field.specs.declared.Number.the-variants.{Word}
 use Rattle.field.specs.Reading.{readField, columns}
 use Rattle.laying.specs.Laying.{Line}
 use Rattle.lines.specs.Lines.{dataPlan, shown}
-use Rattle.reading.specs.Reading.{Shape, card, fields}
+use Rattle.heading.specs.Heading.{Shape, card, fields}
 
 -- "Other bytes are 32 to 126"
 pub record Printed (b : ℕ) : Type 0 where

@@ -1,7 +1,7 @@
 // Lines to block. The same loop judges and writes: into a block of no bytes nothing is written.
 use columns::Flaw;
-use reading::Plan;
-use reading::Step;
+use heading::Plan;
+use heading::Step;
 use units::Answer;
 use units::Bytes;
 use units::Lines;
@@ -14,7 +14,7 @@ ghost use Rattle.units.specs.Answers.{Packs};
 ghost use Rattle.words.specs.Outcomes.{leaves};
 ghost use Rattle.cutting.specs.Cutting.{linesIn};
 ghost use Rattle.reading.specs.Reading.{readLines};
-ghost use Rattle.reading.specs.State.{toCome};
+ghost use Rattle.heading.specs.State.{toCome};
 ghost use Rattle.text.specs.Content.{kept, keptOf, Ended};
 ghost use Rattle.text.specs.Block.{wordsIn, toBlock};
 ghost use Rattle.text.specs.Cases.{contentOf, blockedOf};
@@ -48,7 +48,7 @@ fn read_lines(text: &[u8], block: &mut [u8]) -> Content
     ensures { λ r. ⌜ keptOf (now (block .exit)) r ≡ kept 0 (now (block .entry)) (readLines 1 0 [] (linesIn (now (text .entry)))) ⌝ }
 {
     let mut row = [0u16; 20];
-    let mut plan = reading::cards_only(Lines(0));
+    let mut plan = heading::cards_only(Lines(0));
     let mut so = Words(0);
     let mut num = 1;
     let mut at = 0;

@@ -1,14 +1,9 @@
 use denote.Ref.{now}
-use mathlib.Core.Path.{_≡_, refl, sym, ap, _∙_}
+use mathlib.Core.Path.{refl, sym, ap}
 use Prim.Native.Nat.{_+_}
 use native.Mathlib.Omega.{arith}
-use Rattle.words.specs.Words.{wordsOf}
-use Rattle.field.specs.Reading.{columns}
-use Rattle.columns.specs.Columns.{blankAfter}
-use Rattle.columns.specs.Cases.{flawOf, checkedOf}
-use Rattle.reading.specs.Reading.{gives, inState}
-use Rattle.reading.specs.State.{toCome}
-use Rattle.reading.proofs.Steps.{stops, same-step, stop, go, passed-stand}
+use Rattle.heading.specs.State.{toCome}
+use Rattle.heading.proofs.Steps.{same-step, flaw-ends, good-goes, passed-stand}
 use Rattle.reading.proofs.Later.{card-is, card-size}
 use borrow.Author.Needs.{needs}
 use Rattle.reading.proofs.card_line.Statement.{statement}
@@ -33,16 +28,18 @@ put-card-requires : tie.Need-put-card-requires
 put-card-requires c κs = search needs
 
 returns : tie.Need-returns
-returns c = let a = c .before .before .before .before .before .before .before .before .args in let num = a .num .0 in let so = a .so .0 in let l = now (a .line) in let rest = toCome (c .before .before .before .before .one-card-less .result) in
-    stops (inState num so (toCome (a .p)) l) (c .before .f .given .0 .0) (stop (blankAfter num l 80) (λ _. gives (wordsOf (columns 80 l 0)) rest) (flawOf (c .before .f .given .0 .0)) (ap (checkedOf tt) (sym (c .before .f .given .1)) ∙ c .before .before .before .blank-after .ensures) ∙ sym (card-is num so l (toCome (a .p)) rest (c .before .before .before .before .one-card-less .ensures)))
+returns c = let a = c .before .before .before .before .before .before .before .before .args in
+    same-step _ _ (sym (card-is (a .num .0) (a .so .0) (now (a .line)) (toCome (a .p)) (toCome (c .before .before .before .before .one-card-less .result)) (c .before .before .before .before .one-card-less .ensures)))
+    (flaw-ends _ _ tt (c .before .f .given .1) (c .before .before .before .blank-after .ensures))
 
 same-length : tie.Need-same-length
 same-length c = search needs
 
 returns-2 : tie.Need-returns-2
-returns-2 c = let a = c .before .before .before .before .before .before .before .before .before .before .before .args in let num = a .num .0 in let so = a .so .0 in let l = now (a .line) in let rest = toCome (c .before .before .before .before .before .before .before .one-card-less .result) in
-    same-step (gives (wordsOf (columns 80 l 0)) rest) (inState num so (toCome (a .p)) l) (go (blankAfter num l 80) (λ _. gives (wordsOf (columns 80 l 0)) rest) tt (ap (checkedOf tt) (sym (c .before .before .before .before .enum-told .given .1)) ∙ c .before .before .before .before .before .before .blank-after .ensures) ∙ sym (card-is num so l (toCome (a .p)) rest (c .before .before .before .before .before .before .before .one-card-less .ensures)))
-    (record { is = passed-stand refl (ap (λ k. so + k) (sym (card-size l))) (c .before .before .put-card .ensures); near = omega arith })
+returns-2 c = let a = c .before .before .before .before .before .before .before .before .before .before .before .args in
+    same-step _ _ (sym (card-is (a .num .0) (a .so .0) (now (a .line)) (toCome (a .p)) (toCome (c .before .before .before .before .before .before .before .one-card-less .result)) (c .before .before .before .before .before .before .before .one-card-less .ensures)))
+    (good-goes _ _ tt (c .before .before .before .before .enum-told .given .1) (c .before .before .before .before .before .before .blank-after .ensures)
+    (record { is = passed-stand refl (ap (λ k. a .so .0 + k) (sym (card-size (now (a .line))))) (c .before .before .put-card .ensures); near = omega arith }))
 
 pub card-line-spec : {M : Type 1} → statement M
 card-line-spec =

@@ -1,13 +1,11 @@
 use denote.Ref.{now}
-use mathlib.Core.Path.{_≡_, refl, sym, ap, _∙_}
-use Prim.Native.Nat.{ℕ, _+_, _≤_}
+use mathlib.Core.Path.{_≡_, refl, sym, ap}
+use Prim.Native.Nat.{_+_, _≤_}
 use native.Mathlib.Omega.{arith}
 use lib.ListN.{length, take}
 use lib.Seq.{length-take-le}
-use Rattle.columns.specs.Cases.{flawOf, checkedOf}
-use Rattle.reading.specs.Reading.{gives, rowFields, inState}
-use Rattle.reading.specs.State.{toCome}
-use Rattle.reading.proofs.Steps.{stops, same-step, stop, go, passed-stand}
+use Rattle.heading.specs.State.{toCome}
+use Rattle.heading.proofs.Steps.{same-step, flaw-ends, good-goes, passed-stand}
 use Rattle.reading.proofs.Later.{fields-is}
 use borrow.Author.Needs.{needs}
 use Rattle.reading.proofs.fields_line.Statement.{statement}
@@ -41,8 +39,9 @@ same-length : tie.Need-same-length
 same-length c = search needs
 
 returns : tie.Need-returns
-returns c = let a = c .before .before .before .before .before .before .before .before .before .before .before .before .before .before .before .args in let num = a .num .0 in let so = a .so .0 in let l = now (a .line) in let rest = toCome (c .before .before .before .before .before .before .before .one-line-less .result) in let n = c .before .before .before .before .before .before .before .before .before .before .before .on-line .result .0 in
-    stops (inState num so (toCome (a .p)) l) (c .before .f .given .0 .0) (stop (rowFields num l n) (λ ws. gives ws rest) (flawOf (c .before .f .given .0 .0)) (ap (checkedOf _) (sym (c .before .f .given .1)) ∙ c .before .before .before .before .before .row-fields .ensures) ∙ sym (fields-is num so l (toCome (a .p)) rest n (c .before .before .before .before .before .before .before .one-line-less .ensures)))
+returns c = let a = c .before .before .before .before .before .before .before .before .before .before .before .before .before .before .before .args in
+    same-step _ _ (sym (fields-is (a .num .0) (a .so .0) (now (a .line)) (toCome (a .p)) (toCome (c .before .before .before .before .before .before .before .one-line-less .result)) (c .before .before .before .before .before .before .before .before .before .before .before .on-line .result .0) (c .before .before .before .before .before .before .before .one-line-less .ensures)))
+    (flaw-ends _ _ _ (c .before .f .given .1) (c .before .before .before .before .before .row-fields .ensures))
 
 same-length-2 : tie.Need-same-length-2
 same-length-2 c = search needs
@@ -51,12 +50,12 @@ same-length-3 : tie.Need-same-length-3
 same-length-3 c = search needs
 
 returns-2 : tie.Need-returns-2
-returns-2 c = let a = c .before .before .before .before .before .before .before .before .before .before .before .before .before .before .before .before .before .before .before .args in let num = a .num .0 in let so = a .so .0 in let l = now (a .line) in let rest = toCome (c .before .before .before .before .before .before .before .before .before .before .before .one-line-less .result) in let n = c .before .before .before .before .before .before .before .before .before .before .before .before .before .before .before .on-line .result .0 in
-    let row = c .before .before .before .before .before .before .before .before .before .row-fields .last .1 .1 .1 .0 in
+returns-2 c = let a = c .before .before .before .before .before .before .before .before .before .before .before .before .before .before .before .before .before .before .before .args in let n = c .before .before .before .before .before .before .before .before .before .before .before .before .before .before .before .on-line .result .0 in let row = c .before .before .before .before .before .before .before .before .before .row-fields .last .1 .1 .1 .0 in
     let kept : length row ≡ length (now (a .row)) = c .before .before .before .before .before .before .before .before .before .row-fields .kept .1 .1 .1 .0 in
     let most : n ≤ 20 = omega (arith, c .before .before .before .before .before .before .before .before .before .before .before .before .before .before .before .on-line .ensures) in
-    same-step (gives (take n row) rest) (inState num so (toCome (a .p)) l) (go (rowFields num l n) (λ ws. gives ws rest) (take n row) (ap (checkedOf (take n row)) (sym (c .before .before .before .before .before .enum-told .given .1)) ∙ c .before .before .before .before .before .before .before .before .before .row-fields .ensures) ∙ sym (fields-is num so l (toCome (a .p)) rest n (c .before .before .before .before .before .before .before .before .before .before .before .one-line-less .ensures)))
-    (record { is = passed-stand refl (ap (λ k. so + k) (sym (length-take-le n row (omega (arith, kept, c .before .before .before .before .before .before .before .before .before .before .before .before .before .before .before .before .before .before .before .pre .2))))) (c .before .before .keep-words .ensures); near = omega arith })
+    same-step _ _ (sym (fields-is (a .num .0) (a .so .0) (now (a .line)) (toCome (a .p)) (toCome (c .before .before .before .before .before .before .before .before .before .before .before .one-line-less .result)) n (c .before .before .before .before .before .before .before .before .before .before .before .one-line-less .ensures)))
+    (good-goes _ _ (take n row) (c .before .before .before .before .before .enum-told .given .1) (c .before .before .before .before .before .before .before .before .before .row-fields .ensures)
+    (record { is = passed-stand refl (ap (λ k. a .so .0 + k) (sym (length-take-le n row (omega (arith, kept, c .before .before .before .before .before .before .before .before .before .before .before .before .before .before .before .before .before .before .before .pre .2))))) (c .before .before .keep-words .ensures); near = omega arith }))
 
 pub fields-line-spec : {M : Type 1} → statement M
 fields-line-spec =

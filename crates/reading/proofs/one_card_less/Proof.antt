@@ -1,11 +1,5 @@
 use Rattle.reading.proofs.ToCome.{card-less}
-use mathlib.Core.Path.{_≡_, refl, ap}
-use mathlib.Core.List.{List, _++_, map}
-use Prim.Native.Nat.{ℕ, suc, _-_}
-use native.Mathlib.Omega.{arith}
-use lib.ListN.{replicate}
-use Rattle.reading.specs.Reading.{Shape, card, fields}
-use Rattle.reading.specs.State.{toCome, linesLeft}
+use Rattle.heading.specs.State.{toCome, linesLeft}
 use borrow.Author.Needs.{needs}
 use Rattle.reading.proofs.one_card_less.Statement.{statement}
 use Rattle.reading.proofs.one_card_less.Tie as tie

@@ -1,12 +1,5 @@
 use Rattle.reading.proofs.ToCome.{fields-less}
-use mathlib.Core.Path.{_≡_, refl, sym, ap, _∙_}
-use mathlib.Core.List.{List, _∷_, _++_, map}
-use Prim.Native.Nat.{ℕ, _-_}
-use lib.ListN.{replicate}
-use Rattle.laying.specs.Laying.{part, times}
-use Rattle.reading.specs.Reading.{Shape, card, fields}
-use Rattle.reading.specs.State.{toCome, linesLeft}
-use Rattle.reading.proofs.ToCome.{line-less}
+use Rattle.heading.specs.State.{toCome, linesLeft}
 use borrow.Author.Needs.{needs}
 use Rattle.reading.proofs.one_line_less.Statement.{statement}
 use Rattle.reading.proofs.one_line_less.Tie as tie

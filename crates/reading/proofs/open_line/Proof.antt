@@ -1,13 +1,12 @@
 use denote.Ref.{now}
-use mathlib.Core.Path.{_≡_, refl, sym, ap, _∙_}
+use mathlib.Core.Path.{refl, sym}
 use mathlib.Core.List.{[]}
-use Prim.Native.Nat.{ℕ, _+_}
 use native.Mathlib.Nat.{add-zero}
 use native.Mathlib.Omega.{arith}
 use borrow.Author.Tests.{eq-eqb, ne-eqb}
-use Rattle.reading.specs.Reading.{inState, firstLine}
-use Rattle.reading.proofs.Steps.{same-step, passed-stand}
-use Rattle.columns.specs.Columns.{inkFrom}
+use Rattle.heading.specs.Heading.{firstLine}
+use Rattle.reading.specs.Reading.{inState}
+use Rattle.heading.proofs.Steps.{same-step, passed-stand}
 use Rattle.words.specs.Words.{bytesOf}
 use borrow.Author.Needs.{needs}
 use Rattle.reading.proofs.open_line.Statement.{statement}

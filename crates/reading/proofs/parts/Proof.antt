@@ -1,4 +1,4 @@
-use mathlib.Core.Path.{_≡_, refl, sym}
+use mathlib.Core.Path.{sym}
 use native.Mathlib.Omega.{arith}
 use Rattle.laying.specs.Laying.{times}
 use Rattle.reading.proofs.ToCome.{times-none}

@@ -1,10 +1,9 @@
 use denote.Ref.{now}
-use mathlib.Core.Path.{_≡_, sym, ap, _∙_}
-use mathlib.Core.List.{List, [], _∷_, _++_}
-use Prim.Native.Nat.{ℕ, _+_, _-_, _*_, _≤_, _<_}
+use mathlib.Core.Path.{sym, _∙_}
+use Prim.Native.Nat.{_+_, _-_, _*_}
 use native.Mathlib.Omega.{arith}
-use lib.ListN.{length, take, replicate}
-use lib.Seq.{sets, length-take-le}
+use lib.ListN.{length, replicate}
+use lib.Seq.{length-take-le}
 use Rattle.words.specs.Words.{Below}
 use Rattle.words.proofs.Laws.{all-below}
 use Rattle.words.proofs.Writing.{sets-append}

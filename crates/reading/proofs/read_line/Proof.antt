@@ -1,14 +1,11 @@
 use denote.Ref.{now}
-use mathlib.Core.Path.{_≡_, refl, sym, ap, _∙_}
-use mathlib.Core.List.{[]}
-use Prim.Native.Nat.{ℕ}
+use mathlib.Core.Path.{_≡_, sym, ap, _∙_}
 use native.Mathlib.Omega.{arith}
 use borrow.Author.Tests.{lt-ltb, le-ltb}
 use Rattle.columns.specs.declared.Flaw.the-variants.{Byte}
-use Rattle.columns.specs.Columns.{badColumn}
 use Rattle.reading.specs.Reading.{inState, lineStep}
-use Rattle.reading.specs.State.{toCome}
-use Rattle.reading.proofs.Steps.{stops, same-step}
+use Rattle.heading.specs.State.{toCome}
+use Rattle.heading.proofs.Steps.{stops, same-step}
 use Rattle.reading.proofs.ToCome.{none-to-come}
 use borrow.Author.Needs.{needs}
 use Rattle.reading.proofs.read_line.Statement.{statement}

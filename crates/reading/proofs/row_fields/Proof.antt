@@ -7,9 +7,9 @@ use Prim.Native.Nat.{_*_}
 use lib.ListN.{take}
 use Rattle.units.specs.Answers.{passed, onward}
 use Rattle.columns.specs.Columns.{numbers, blankAfter}
-use Rattle.columns.specs.Cases.{flawOf, checkedOf}
+use Rattle.columns.specs.Cases.{checkedOf}
 use Rattle.reading.specs.Reading.{rowFields}
-use Rattle.reading.proofs.Steps.{read-stop, read-go, checked-on}
+use Rattle.heading.proofs.Steps.{checked-on, flaw-read, good-read}
 use borrow.Author.Needs.{needs}
 use Rattle.reading.proofs.row_fields.Statement.{statement}
 use Rattle.reading.proofs.row_fields.Tie as tie
@@ -35,7 +35,7 @@ same-length c = search needs
 returns : tie.Need-returns
 unfolding rowFields
 returns c = let a = c .before .before .before .before .before .before .before .before .before .args in let num = a .num .0 in let l = now (a .line) in let n = a .count .0 in
-    read-stop [] (λ r. onward (blankAfter num l (6 * n)) (λ _. passed r)) (numbers num l 0 n) (flawOf (c .before .f .given .0 .0)) (ap (checkedOf _) (sym (c .before .f .given .1)) ∙ c .before .before .before .before .before .read-numbers .ensures)
+    flaw-read [] (λ r. onward (blankAfter num l (6 * n)) (λ _. passed r)) (numbers num l 0 n) _ (c .before .f .given .1) (c .before .before .before .before .before .read-numbers .ensures)
 
 same-length-2 : tie.Need-same-length-2
 same-length-2 c = search needs
@@ -45,7 +45,7 @@ unfolding rowFields
 returns-2 c = let a = c .before .before .before .before .before .before .before .before .before .before .args in let num = a .num .0 in let l = now (a .line) in let n = a .count .0 in let row = c .before .before .before .before .before .before .read-numbers .last .1 .1 .1 .1 .0 in
     let e : c .before .columns-of-fields .result .0 ≡ 6 * n = omega (arith, c .before .columns-of-fields .ensures) in
     checked-on (take n row) (c .blank-after .result) (blankAfter num l (6 * n)) (c .blank-after .ensures ∙ ap (blankAfter num l) e)
-    ∙ read-go [] (λ r. onward (blankAfter num l (6 * n)) (λ _. passed r)) (numbers num l 0 n) (take n row) (ap (λ k. passed (take k row)) (sym (zero-add n)) ∙ ap (checkedOf _) (sym (c .before .before .enum-told .given .1)) ∙ c .before .before .before .before .before .before .read-numbers .ensures)
+    ∙ good-read [] (λ r. onward (blankAfter num l (6 * n)) (λ _. passed r)) (numbers num l 0 n) (take n row) (c .before .before .enum-told .given .1) (ap (λ k. checkedOf (take k row) (c .before .before .before .before .before .before .read-numbers .result)) (sym (zero-add n)) ∙ c .before .before .before .before .before .before .read-numbers .ensures)
 
 pub row-fields-spec : {M : Type 1} → statement M
 row-fields-spec =

@@ -6,7 +6,7 @@ use native.Mathlib.Omega.{arith}
 use native.Mathlib.Nat.{add-zero}
 use borrow.Author.Tests.{eq-eqb, ne-eqb}
 use Rattle.words.specs.Words.{bytesOf}
-use Rattle.reading.specs.State.{toCome}
+use Rattle.heading.specs.State.{toCome}
 use Rattle.reading.proofs.ToCome.{none-to-come}
 use Rattle.text.proofs.Ends.{inside, no-record, all-read}
 use borrow.Author.Needs.{needs}

@@ -9,8 +9,9 @@ use borrow.Author.Needs.{needs}
 use lib.ListN.{length, take, drop, drop-of-length-le}
 use Rattle.cutting.specs.Cutting.{linesIn}
 use Rattle.columns.specs.Cases.{flawOf}
-use Rattle.reading.specs.Reading.{readLines, lineStep, Shape}
-use Rattle.reading.specs.State.{toCome, stepOf, Near}
+use Rattle.heading.specs.Heading.{Shape}
+use Rattle.reading.specs.Reading.{readLines, lineStep}
+use Rattle.heading.specs.State.{toCome, stepOf, Near}
 use Rattle.text.specs.Content.{kept}
 use Rattle.text.proofs.Loop.{Going, turn, end}
 use Rattle.text.proofs.read_lines.Statement.{statement}

@@ -1,0 +1,4 @@
+pub mod Steps
+pub mod ToCome
+pub mod Heads
+pub mod Fronts
