@@ -1,5 +1,5 @@
 -- Record n of a block: where it stands, and its words.
-use mathlib.Core.Path.{_≡_, refl, sym, ap, _∙_}
+use mathlib.Core.Path.{_≡_, refl, ap, _∙_}
 use mathlib.Core.Bool.{Bool, true, false, not, _||_}
 use mathlib.Core.Logic.{_⊎_, inl, inr}
 use mathlib.Core.List.{List, [], _∷_, _++_, append-assoc}
@@ -7,10 +7,10 @@ use Prim.Native.Nat.{ℕ, zero, suc, _+_, _-_, _≤_, _<_}
 use native.Mathlib.Omega.{arith}
 use borrow.Author.Tests.{eq-eqb, ne-eqb, lt-ltb}
 use lib.Dec.{eqb, ltb}
-use lib.ListN.{length, getD, take, drop, length-append}
+use lib.ListN.{length, take, drop, length-append}
 use lib.Seq.{slice, split-at, take-append-seam, drop-append-seam, take-append-add}
 use Rattle.units.specs.Choice.{if_then_else_}
-use Rattle.units.specs.Answers.{answer, Verdict, passed, refused}
+use Rattle.units.specs.Answers.{answer, passed, refused}
 use Rattle.units.specs.declared.Words.{Words}
 use Rattle.words.specs.Words.{wordsOf, joined, framed}
 use Rattle.words.proofs.Laws.{joined-append}

@@ -1,25 +1,25 @@
 -- What amend and undo leave of a block and its sheet, from what the code has found and stored.
 use mathlib.Core.Path.{_≡_, refl, sym, ap, _∙_}
 use mathlib.Core.List.{List, [], _∷_, _++_}
-use Prim.Native.Nat.{ℕ, _+_, _-_, _≤_, _<_}
+use Prim.Native.Nat.{ℕ, _+_, _-_, _<_}
 use native.Mathlib.Omega.{arith}
 use lib.Bits.{bitXor}
-use lib.ListN.{length, getD, take, length-append, length-take}
+use lib.ListN.{length, getD, take, length-append}
 use lib.Seq.{sets, length-take-le}
 use Rattle.units.specs.Units.{bytesOfWords}
 use Rattle.units.specs.declared.Answer.{Answer}
-use Rattle.units.specs.Answers.{answer, answered, Verdict, passed, refused, onward}
+use Rattle.units.specs.Answers.{answer, Verdict, passed, refused, onward}
 use Rattle.words.specs.Words.{wordsOf, bytesOf, Below}
 use Rattle.block.specs.Judging.{judged, Accepted}
 use Rattle.block.specs.Records.{recordsOf}
-use Rattle.block.specs.Rules.{blockOf, IsBlock}
+use Rattle.block.specs.Rules.{IsBlock}
 use Rattle.block.proofs.Exact.{only-good}
 use Rattle.sheet.specs.Sheets.{Entry, version1, sheetOf, entriesOf, opened}
 use Rattle.units.proofs.Verdicts.{never-passed}
 use Rattle.sheet.specs.Rules.{KeepsLayout}
 use Rattle.sheet.proofs.Sheets.{sheet-opened}
-use Rattle.amending.specs.Places.{recordNumber, wordNumber, oldValue, newValue, found, valuePlace, withValue}
-use Rattle.amending.specs.Amending.{Amended, Standing, buffers, standing, amendable, undoable, lastOf, othersOf, leaving, onBoth}
+use Rattle.amending.specs.Places.{recordNumber, wordNumber, oldValue, newValue, found, valuePlace}
+use Rattle.amending.specs.Amending.{Standing, buffers, standing, amendable, undoable, lastOf, leaving, onBoth}
 use Rattle.amending.proofs.Patched.{NamesValue, names-value, value-within, value-found, value-put}
 use Rattle.amending.proofs.Steps.{amend-differs, amend-passes, undo-differs, undo-standing, it-stands}
 

@@ -1,22 +1,21 @@
 -- What amend and undo come to, case by case of what the code has found.
-use mathlib.Core.Path.{_≡_, refl, sym, ap, ap₂, _∙_}
-use mathlib.Core.Bool.{Bool, true, false, not, _&&_}
+use mathlib.Core.Path.{_≡_, refl, sym}
+use mathlib.Core.Bool.{Bool, true, false, not}
 use mathlib.Core.Logic.{_⊎_, inl, inr}
 use mathlib.Core.List.{List, [], _∷_, _++_}
-use Prim.Native.Nat.{ℕ, suc, _+_, _-_, _≤_, _<_}
+use Prim.Native.Nat.{ℕ, _+_, _-_, _≤_, _<_}
 use native.Mathlib.Omega.{arith}
 use borrow.Author.Tests.{eq-eqb, ne-eqb, le-leb, lt-leb}
-use lib.Dec.{eqb, leb}
-use lib.ListN.{length, getD, take}
+use lib.ListN.{length, take}
 use Rattle.units.specs.Choice.{if_then_else_}
 use Rattle.units.specs.declared.Answer.{Answer}
-use Rattle.units.specs.Answers.{answer, Verdict, passed, refused}
+use Rattle.units.specs.Answers.{answer, passed, refused}
 use Rattle.units.proofs.Verdicts.{never-passed}
 use Rattle.words.specs.Words.{joined}
 use Rattle.record.specs.Values.{isValue}
 use Rattle.sheet.specs.Sheets.{Layout, Entry}
-use Rattle.amending.specs.Places.{recordNumber, wordNumber, oldValue, newValue, recordIn, noRecord, noValue, found, valuePlace, withValue, stands}
-use Rattle.amending.specs.Amending.{Standing, standing, amendable, undoable, lastOf, othersOf}
+use Rattle.amending.specs.Places.{recordNumber, wordNumber, oldValue, newValue, recordIn, noRecord, found, valuePlace, withValue, stands}
+use Rattle.amending.specs.Amending.{standing, amendable, undoable, lastOf, othersOf}
 use Rattle.amending.proofs.Patched.{NamesValue}
 
 -- there is no such record, or no such value in it

@@ -1,7 +1,7 @@
 -- Document 01, "The amendment sheet" and "Answer numbers": what amend and undo answer, and leave of block and sheet.
 use Prim.Native.Nat.{ℕ, _-_}
 use mathlib.Core.List.{List, [], _∷_, _++_}
-use mathlib.Core.Bool.{Bool, not}
+use mathlib.Core.Bool.{not}
 use lib.Dec.{eqb, leb}
 use lib.ListN.{length, getD, take}
 use Rattle.units.specs.Choice.{if_then_else_}

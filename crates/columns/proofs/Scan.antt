@@ -1,8 +1,8 @@
 -- Scanning a line column by column: what the next column does to the answer.
-use mathlib.Core.Path.{_≡_, refl, ap, _∙_}
+use mathlib.Core.Path.{_≡_, refl, _∙_}
 use mathlib.Core.Bool.{Bool, true, false, not, _||_}
 use mathlib.Core.List.{List, [], _∷_}
-use Prim.Native.Nat.{ℕ, zero, suc, _+_, _≤_, _<_}
+use Prim.Native.Nat.{ℕ, suc, _+_, _≤_, _<_}
 use native.Mathlib.Numerals.{add-one}
 use native.Mathlib.Omega.{arith}
 use borrow.Author.Tests.{lt-ltb, le-ltb, ltb-true, ltb-false}
@@ -11,7 +11,6 @@ use lib.ListN.{length, getD, drop, drop-of-length-le}
 use lib.Seq.{drop-cons}
 use Rattle.units.specs.Choice.{if_then_else_}
 use Rattle.record.specs.Judging.{passing, within, plainIn}
-use Rattle.field.specs.Reading.{columns}
 use Rattle.columns.specs.Columns.{badColumn, inkFrom}
 
 module _ (l : List ℕ) (i : ℕ) where

@@ -1,5 +1,5 @@
 -- Document 01, "Read form" and rows 20, 22 and 26: what stands in the columns of a line. `num` is the line's number in the text.
-use Prim.Native.Nat.{ℕ, zero, suc, _+_, _*_}
+use Prim.Native.Nat.{ℕ, zero, suc, _+_}
 use mathlib.Core.List.{List, [], _∷_}
 use mathlib.Core.Bool.{Bool, not, _||_}
 use lib.Dec.{ltb, eqb}

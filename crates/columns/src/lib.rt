@@ -6,11 +6,11 @@ use units::Lines;
 use units::Words;
 ghost use mathlib.Core.Path.{_≡_};
 ghost use mathlib.Core.List.{_++_};
-ghost use Prim.Native.Nat.{_+_, _*_, _^_, _≤_, _<_};
+ghost use Prim.Native.Nat.{_+_, _^_, _≤_, _<_};
 ghost use lib.ListN.{length, take};
 ghost use Rattle.units.specs.Answers.{answer, passed, onward, Packs};
 ghost use Rattle.record.specs.Judging.{plainIn};
-ghost use Rattle.columns.specs.Columns.{badColumn, inkAfter, blankAfter, blankField, columnOf, number, numbers, zeroField, zeros};
+ghost use Rattle.columns.specs.Columns.{badColumn, inkAfter, blankAfter, blankField, columnOf, numbers, zeroField, zeros};
 ghost use Rattle.columns.specs.Cases.{flawOf, checkedOf};
 
 // Why a text is refused: the line and, where it is not always the same, the column, both counted from 1.

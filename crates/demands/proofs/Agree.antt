@@ -20,7 +20,6 @@ use Rattle.lines.specs.Cases.{linedOf}
 use Rattle.columns.specs.declared.Flaw.{Flaw}
 use Rattle.columns.specs.declared.Flaw.the-variants.{Byte, NoRecord, Field, Count, Ends, NotBlank, Range, Much, Long}
 use Rattle.columns.specs.declared.Flaw.the-variants as columns
-use Rattle.columns.specs.Cases.{flawOf}
 use Rattle.text.specs.declared.Content.{Content}
 use Rattle.text.specs.declared.Content.the-variants.{Flawed}
 use Rattle.text.specs.declared.Content.the-variants as text
@@ -36,8 +35,7 @@ use Rattle.amending.specs.declared.Amended.the-variants as amending
 use Rattle.amending.specs.declared.Refusal.the-variants as rows
 use Rattle.amending.specs.Cases.{amendedOf}
 use Rattle.amending.specs.Amending as outcome
-use Rattle.demands.specs.Agree.{JudgeAgrees, CedarJudgeAgrees, StepAgrees, FindAgrees, PrefixAgrees, CedarPrefixAgrees}
-use Rattle.demands.specs.Agree.{LinesAgree, CedarLinesAgree, ContentAgrees, BlockAgrees, CedarBlockAgrees}
+use Rattle.demands.specs.Agree.{JudgeAgrees, CedarJudgeAgrees, StepAgrees, FindAgrees, PrefixAgrees, CedarPrefixAgrees, LinesAgree, CedarLinesAgree, ContentAgrees, BlockAgrees, CedarBlockAgrees}
 use Rattle.demands.specs.Agree.{OpenAgrees, StartAgrees, BothAgree, AmendAgrees, UndoAgrees, CedarStartAgrees, CedarBothAgree, CedarAmendAgrees, CedarUndoAgrees}
 
 -- the case that a refusal's numbers tell

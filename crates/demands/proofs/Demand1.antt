@@ -2,13 +2,12 @@
 use mathlib.Core.Path.{_≡_, refl, ap}
 use mathlib.Core.Logic.{_⊎_, inl, inr}
 use mathlib.Core.Bool.{Bool, true, false, cond, _&&_}
-use mathlib.Core.List.{List, [], _∷_, _++_}
+use mathlib.Core.List.{List, [], _∷_}
 use Prim.Native.Nat.{ℕ}
 use native.Mathlib.Omega.{arith}
 use borrow.Author.Tests.{ltb-true}
 use lib.Dec.{ltb, eqb}
-use lib.ListN.{length, drop}
-use Rattle.units.specs.Choice.{if_then_else_}
+use lib.ListN.{length}
 use Rattle.units.specs.Answers.{answer, answered, Verdict, passed, refused, onward}
 use Rattle.units.proofs.Packing.{taken-apart}
 use Rattle.units.proofs.Verdicts.{and-on}

@@ -1,15 +1,14 @@
 -- Amend and undo on a stack of standing amendments: which are refused, and what stands after the others.
-use mathlib.Core.Path.{_≡_, refl, sym, ap, _∙_}
+use mathlib.Core.Path.{_≡_, sym, ap, _∙_}
 use mathlib.Core.Bool.{true, false, not}
 use mathlib.Core.List.{List, [], _∷_, _++_, append-nil}
 use Prim.Native.Nat.{ℕ, _+_, _-_, _≤_, _<_}
 use native.Mathlib.Omega.{arith}
-use borrow.Author.Tests.{ltb-false, leb-false, eqb-true, eqb-false, not-false, le-ltb, lt-leb, eq-eqb, ne-eqb}
-use lib.Dec.{eqb, ltb, leb}
+use borrow.Author.Tests.{leb-false, eqb-true, not-false}
+use lib.Dec.{eqb, leb}
 use lib.ListN.{length, length-append}
 use lib.Seq.{append-snoc, take-at, getD-at}
 use Rattle.units.specs.Answers.{answer, Verdict, passed, refused}
-use Rattle.units.proofs.Verdicts.{or-off}
 use Rattle.units.proofs.Choosing.{by-test}
 use Rattle.words.specs.Words.{All}
 use Rattle.words.proofs.Laws.{getD-below}

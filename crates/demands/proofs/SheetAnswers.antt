@@ -2,30 +2,30 @@
 use mathlib.Core.Path.{_≡_, refl, sym}
 use mathlib.Core.Bool.{not}
 use mathlib.Core.Logic.{_⊎_, inl, inr}
-use mathlib.Core.List.{List, [], _∷_, _++_}
+use mathlib.Core.List.{List, [], _∷_}
 use Prim.Native.Nat.{ℕ, _-_, _^_, _≤_, _<_}
 use native.Mathlib.Omega.{arith}
 use borrow.Author.Tests.{leb-false}
 use lib.Dec.{eqb, leb}
-use lib.ListN.{length, take, length-append, length-take}
+use lib.ListN.{length, length-append, length-take}
 use Rattle.units.specs.declared.Answer.{Answer}
 use Rattle.units.specs.Answers.{answer, Verdict, passed, refused, onward, Packs}
 use Rattle.units.proofs.Choosing.{by-test, both-ways}
 use Rattle.units.proofs.Packing.{taken-apart}
 use Rattle.units.proofs.Verdicts.{never-passed}
 use Rattle.words.specs.Words.{All, Below}
-use Rattle.words.specs.Outcomes.{Written, leaves}
+use Rattle.words.specs.Outcomes.{leaves}
 use Rattle.words.proofs.Laws.{getD-below}
 use Rattle.words.proofs.Lists.{all-getD, all-map}
 use Rattle.record.specs.Rules.{RecordOk}
 use Rattle.block.specs.Judging.{judged}
 use Rattle.block.specs.Records.{recordsOf}
 use Rattle.block.proofs.Exact.{only-good}
-use Rattle.block.proofs.Known.{Told, Known, judged-known}
+use Rattle.block.proofs.Known.{Known, judged-known}
 use Rattle.sheet.specs.Sheets.{Entry, version1, sheetBytes, sheetOf, entriesOf, broken, countIn, opened, started}
 use Rattle.sheet.proofs.Sheets.{sheet-opened}
-use Rattle.amending.specs.Places.{recordNumber, wordNumber, oldValue, newValue, recordIn, noRecord, noValue, found, withValue, stands}
-use Rattle.amending.specs.Amending.{Standing, standing, amendable, undoable, lastOf, othersOf, leaving, onBoth}
+use Rattle.amending.specs.Places.{recordNumber, wordNumber, oldValue, recordIn, noRecord, noValue, found, stands}
+use Rattle.amending.specs.Amending.{Standing, standing, amendable, undoable, lastOf, leaving, onBoth}
 use Rattle.demands.specs.Demand1.{Kept, StartAnswers, BothAnswer, AmendAnswers, UndoAnswers}
 
 -- ---- rows 40 to 46

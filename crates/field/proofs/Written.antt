@@ -4,7 +4,7 @@ use mathlib.Core.List.{List, [], _∷_, _++_}
 use Prim.Native.Nat.{ℕ, zero, suc, _-_, _/_, _≤_}
 use native.Mathlib.Omega.{arith}
 use lib.Dec.{ltb}
-use lib.ListN.{length, replicate, length-append, length-replicate}
+use lib.ListN.{length, length-append, length-replicate}
 use Rattle.units.specs.Choice.{if_then_else_}
 use Rattle.words.specs.Words.{All}
 use Rattle.words.proofs.Lists.{all-append, all-replicate}

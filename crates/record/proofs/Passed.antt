@@ -10,7 +10,7 @@ use lib.ListN.{length}
 use Rattle.units.specs.Choice.{if_then_else_}
 use Rattle.units.specs.Answers.{answer, passed, refused}
 use Rattle.units.proofs.Verdicts.{never-passed, else-passed, or-off}
-use Rattle.words.specs.Words.{word, words}
+use Rattle.words.specs.Words.{word}
 use Rattle.record.specs.Rules.{Least}
 use Rattle.record.specs.Judging.{wrongTotal, firstNotZero, firstNotCard, wordsNeeded, underLeast, judgeCards, judgeCounts, judgeData, judgeRecord}
 

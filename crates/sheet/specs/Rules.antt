@@ -1,7 +1,7 @@
 -- Document 01, "The amendment sheet": what a sheet that keeps its layout is, with no order of tests in it.
 use mathlib.Core.Path.{_≡_}
 use mathlib.Core.List.{List}
-use Prim.Native.Nat.{ℕ, _≤_, _<_}
+use Prim.Native.Nat.{ℕ, _≤_}
 use lib.ListN.{length}
 use Rattle.words.specs.Words.{All, Below}
 use Rattle.sheet.specs.Sheets.{Layout, Entry, sheetOf, entriesOf}

@@ -1,16 +1,14 @@
 -- The end of the text.
-use mathlib.Core.Path.{_≡_, refl, sym, ap, _∙_}
+use mathlib.Core.Path.{_≡_, sym, ap}
 use mathlib.Core.List.{List, [], _∷_}
-use Prim.Native.Nat.{ℕ, _+_}
+use Prim.Native.Nat.{ℕ}
 use native.Mathlib.Nat.{add-zero}
 use borrow.Author.Tests.{eq-eqb, ne-eqb}
-use lib.Dec.{eqb}
-use Rattle.units.specs.Choice.{if_then_else_}
-use Rattle.units.specs.Answers.{answer, Verdict, passed, refused}
+use Rattle.units.specs.Answers.{answer, passed, refused}
 use Rattle.words.specs.Words.{bytesOf}
 use Rattle.heading.specs.Heading.{Shape}
 use Rattle.reading.specs.Reading.{atEnd}
-use Rattle.text.specs.Content.{Kept, kept}
+use Rattle.text.specs.Content.{kept}
 
 module _ (num so : ℕ) (b : List ℕ) {here : List Shape} where
   pub inside : (s : Shape) (rest : List Shape) → here ≡ s ∷ rest → refused (answer 25 num 1 0) ≡ kept so b (atEnd num so here)

@@ -12,7 +12,7 @@ use Rattle.columns.specs.Cases.{flawOf}
 use Rattle.heading.specs.Heading.{Shape, Read}
 use Rattle.reading.specs.Reading.{lineStep, readLines}
 use Rattle.heading.specs.State.{Stand, toCome, put, after, stepOf, Near}
-use Rattle.text.specs.Content.{Kept, kept}
+use Rattle.text.specs.Content.{kept}
 use Rattle.heading.specs.declared.Plan.{Plan}
 use Rattle.heading.specs.declared.Step.{Step}
 use Rattle.heading.specs.declared.Step.the-variants.{Next, Refused}

@@ -11,12 +11,10 @@ use lib.ListN.{length, getD, drop, replicate, length-append, length-drop, length
 use Rattle.units.specs.Answers.{answer, refused}
 use Rattle.units.proofs.Verdicts.{or-off}
 use Rattle.words.specs.Words.{word}
-use Rattle.words.proofs.Laws.{length-wordsOf}
 use Rattle.record.specs.Judging.{underLeast, wordsNeeded}
 use Rattle.record.specs.Lines.{linesNeeded}
 use Rattle.record.specs.Rules.{Least}
 use Rattle.record.proofs.Passed.{at-least}
-use Rattle.field.specs.Reading.{columns}
 use Rattle.laying.specs.Laying.{Line, plan}
 use Rattle.laying.proofs.Turns.{fieldsIn, part-turn}
 use Rattle.lines.specs.Lines.{dataPlan}

@@ -1,15 +1,12 @@
 -- The call's outcome: a text that was judged, and the block that is written of it.
 use mathlib.Core.Path.{_≡_, refl, sym, ap, _∙_}
-use mathlib.Core.List.{List, [], _∷_}
-use Prim.Native.Nat.{ℕ, _+_, _*_, _≤_, _<_}
-use native.Mathlib.Omega.{arith}
+use mathlib.Core.List.{List, []}
+use Prim.Native.Nat.{ℕ, _+_, _≤_, _<_}
 use native.Mathlib.Nat.{zero-add}
 use borrow.Author.Tests.{lt-ltb, le-ltb, ltb-false}
 use lib.Dec.{ltb}
 use lib.ListN.{length}
-use Rattle.units.specs.declared.Answer.{Answer}
 use Rattle.units.specs.declared.Words.{Words}
-use Rattle.units.specs.Choice.{if_then_else_}
 use Rattle.units.specs.Answers.{answer, Verdict, passed, refused, onward}
 use Rattle.units.proofs.Verdicts.{never-passed, else-passed}
 use Rattle.words.specs.Words.{bytesOf, framed}

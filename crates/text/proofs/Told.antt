@@ -1,9 +1,7 @@
 -- What is known of a judgement over lines: the numbers of its refusal, or a fact of what it gives.
-use mathlib.Core.Path.{_≡_, refl}
-use mathlib.Core.Bool.{Bool, true, false}
+use mathlib.Core.Path.{_≡_}
 use Prim.Native.Nat.{ℕ, _^_, _≤_, _<_}
 use native.Mathlib.Omega.{arith}
-use Rattle.units.specs.Choice.{if_then_else_}
 use Rattle.units.specs.declared.Answer.{Answer}
 use Rattle.units.specs.Answers.{answer, Verdict, passed, refused, onward, Packs}
 

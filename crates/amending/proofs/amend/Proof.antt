@@ -1,8 +1,8 @@
 use denote.Ref.{now}
 use native.Mathlib.Omega.{arith}
-use mathlib.Core.Path.{_≡_, sym, ap, _∙_}
+use mathlib.Core.Path.{sym, ap, _∙_}
 use Rattle.amending.proofs.Outcome.{look-refused, Looked, look-passed}
-use Rattle.amending.specs.Amending.{amendable, undoable}
+use Rattle.amending.specs.Amending.{amendable}
 use Rattle.amending.specs.Cases.{amendedOf}
 use Rattle.words.proofs.Laws.{all-below}
 use Rattle.sheet.specs.Sheets.{version1}

@@ -1,6 +1,6 @@
 use denote.Ref.{now}
 use native.Mathlib.Omega.{arith}
-use mathlib.Core.Path.{_≡_, sym, ap, _∙_}
+use mathlib.Core.Path.{sym, ap, _∙_}
 use Rattle.amending.proofs.Outcome.{refusal-leaves}
 use Rattle.amending.proofs.Steps.{amend-full, amend-no-place}
 use Rattle.amending.specs.Cases.{spotOf}

@@ -1,9 +1,7 @@
 use denote.Ref.{now}
-use mathlib.Core.Path.{_≡_, sym, ap, _∙_}
+use mathlib.Core.Path.{sym, _∙_}
 use native.Mathlib.Omega.{arith}
-use Prim.Native.Nat.{_+_}
-use Rattle.amending.proofs.Located.{placed-none, Located, located, place-none, place-in}
-use Rattle.amending.specs.Places.{valuePlace}
+use Rattle.amending.proofs.Located.{Located, located, place-none, place-in}
 use Rattle.words.specs.Words.{Below}
 use Rattle.words.proofs.Laws.{all-below}
 use Rattle.block.proofs.Placed.{find-record}

@@ -1,10 +1,4 @@
-use Rattle.units.specs.Units.{bytesOfWords}
-use Rattle.words.specs.Words.{bytesOf}
-use mathlib.Core.Path.{_≡_, ap, ap₂, _∙_}
-use mathlib.Core.List.{List, [], _∷_}
-use Prim.Native.Nat.{ℕ, _-_}
-use lib.Bits.{bitXor}
-use lib.Seq.{sets}
+use mathlib.Core.Path.{_∙_}
 use denote.Ref.{now}
 use native.Mathlib.Omega.{arith}
 use Rattle.words.proofs.Laws.{length-wordsOf}

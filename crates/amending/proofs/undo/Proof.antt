@@ -1,12 +1,10 @@
 use denote.Ref.{now}
 use native.Mathlib.Omega.{arith}
-use mathlib.Core.Path.{_≡_, sym, ap, _∙_}
+use mathlib.Core.Path.{sym, ap, _∙_}
 use Rattle.amending.proofs.Outcome.{look-refused, Looked, look-passed}
-use Rattle.amending.specs.Amending.{amendable, undoable}
+use Rattle.amending.specs.Amending.{undoable}
 use Rattle.amending.specs.Cases.{amendedOf}
 use Rattle.words.proofs.Laws.{all-below}
-use Rattle.sheet.specs.Sheets.{version1}
-use Rattle.sheet.specs.Cases.{entryOf}
 use borrow.Author.Needs.{needs}
 use Rattle.amending.proofs.undo.Statement.{statement}
 use Rattle.amending.proofs.undo.Tie as tie

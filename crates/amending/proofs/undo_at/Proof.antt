@@ -1,4 +1,4 @@
-use lib.ListN.{getD}
+use lib.ListN.{getD, length}
 use mathlib.Core.List.{[]}
 use mathlib.Core.Path.{_≡_, sym, ap, _∙_}
 use Rattle.amending.specs.Amending.{lastOf}
@@ -7,7 +7,6 @@ use Rattle.amending.proofs.Outcome.{spot-within, undo-other, undo-done}
 use denote.Ref.{now}
 use native.Mathlib.Omega.{arith}
 use Prim.Native.Nat.{_+_, _<_}
-use lib.ListN.{length}
 use Rattle.words.proofs.Laws.{all-below}
 use Rattle.words.specs.Words.{wordsOf, Below}
 use Rattle.sheet.specs.Cases.{entryOf}

@@ -1,6 +1,6 @@
 use denote.Ref.{now}
 use native.Mathlib.Omega.{arith}
-use lib.ListN.{length, getD}
+use lib.ListN.{getD}
 use mathlib.Core.List.{[]}
 use mathlib.Core.Path.{_≡_, sym, ap, _∙_}
 use Rattle.amending.proofs.Outcome.{refusal-leaves}
@@ -11,7 +11,7 @@ use Rattle.amending.specs.Cases.{spotOf}
 use Rattle.units.specs.declared.Answer.{Answer}
 use Rattle.units.specs.Answers.{answer, refused}
 use Rattle.block.specs.Records.{recordsOf}
-use Rattle.sheet.specs.Sheets.{version1, Entry, entriesOf}
+use Rattle.sheet.specs.Sheets.{version1, entriesOf}
 use Rattle.sheet.specs.Cases.{entryOf}
 use borrow.Author.Needs.{needs}
 use Rattle.amending.proofs.undo_last.Statement.{statement}

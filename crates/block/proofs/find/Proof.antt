@@ -1,4 +1,4 @@
-use Prim.Native.Nat.{_-_}
+use Prim.Native.Nat.{_-_, _≤_}
 use Rattle.block.proofs.Steps.{Found, step-found, find-none, find-first, find-on}
 use Rattle.block.specs.Steps.{findOf, past}
 use Rattle.words.proofs.Laws.{length-wordsOf}
@@ -7,7 +7,6 @@ use denote.Ref.{now}
 use borrow.Author.Needs.{needs}
 use native.Mathlib.Omega.{arith}
 use mathlib.Core.Path.{_≡_, refl, sym, ap, _∙_}
-use Prim.Native.Nat.{_≤_}
 use Rattle.block.proofs.find.Statement.{statement}
 use Rattle.block.proofs.find.Tie as tie
 

@@ -1,8 +1,6 @@
 use denote.Ref.{now}
-use mathlib.Core.Path.{_≡_, sym, _∙_}
-use Prim.Native.Nat.{ℕ, _+_, _<_}
+use mathlib.Core.Path.{_≡_, sym}
 use native.Mathlib.Omega.{arith}
-use lib.ListN.{length}
 use Rattle.record.specs.Judging.{within}
 use Rattle.record.proofs.Scan.{scan-le}
 use Rattle.columns.proofs.Scan.{bad-after, bad-past, bad-nowhere}

@@ -1,7 +1,6 @@
-use denote.Ref.{now}
-use mathlib.Core.Path.{_≡_, sym, ap, _∙_}
+use mathlib.Core.Path.{sym}
 use borrow.Author.Tests.{eq-eqb, ne-eqb}
-use Rattle.columns.specs.Columns.{inkAfter, blankAfter}
+use Rattle.columns.specs.Columns.{blankAfter}
 use borrow.Author.Needs.{needs}
 use Rattle.columns.proofs.blank_after.Statement.{statement}
 use Rattle.columns.proofs.blank_after.Tie as tie

@@ -1,5 +1,4 @@
 use denote.Ref.{now}
-use mathlib.Core.Path.{_≡_, sym, ap, _∙_}
 use borrow.Author.Tests.{eq-eqb, ne-eqb}
 use Rattle.columns.proofs.Zeros.{blank-is}
 use borrow.Author.Needs.{needs}

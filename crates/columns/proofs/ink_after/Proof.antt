@@ -1,11 +1,11 @@
 use denote.Ref.{now}
-use mathlib.Core.Path.{_≡_, refl, sym, ap, _∙_}
-use Prim.Native.Nat.{ℕ, _≤_, _<_, _+_, _-_, _*_}
+use mathlib.Core.Path.{_≡_, refl, sym, _∙_}
+use Prim.Native.Nat.{_+_, _-_}
 use native.Mathlib.Omega.{arith}
 use borrow.Author.Needs.{needs}
 use lib.ListN.{length, drop, getD}
 use borrow.Author.Tests.{eq-eqb, ne-eqb}
-use Rattle.columns.specs.Columns.{inkFrom, inkAfter}
+use Rattle.columns.specs.Columns.{inkFrom}
 use Rattle.columns.proofs.Scan.{ink-at, ink-end}
 use Rattle.columns.proofs.ink_after.Statement.{statement}
 use Rattle.columns.proofs.ink_after.Tie as tie

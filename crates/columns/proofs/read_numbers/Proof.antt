@@ -1,15 +1,12 @@
-use Rattle.units.specs.Answers.{answer, passed, refused}
-use lib.ListN.{length-set}
-use Rattle.columns.proofs.Row.{fill-done}
+use Rattle.units.specs.Answers.{passed}
+use lib.ListN.{length-set, length, take}
+use Rattle.columns.proofs.Row.{fill-done, filled, fill-bad, fill-word}
 use native.Mathlib.Nat.{add-sub-cancel-left}
 use denote.Ref.{now}
 use mathlib.Core.Path.{_≡_, refl, sym, ap, _∙_}
-use mathlib.Core.List.{List, [], _∷_, _++_}
-use Prim.Native.Nat.{ℕ, suc, _≤_, _<_, _+_, _-_, _*_}
+use Prim.Native.Nat.{_≤_, _+_, _-_}
 use native.Mathlib.Omega.{arith}
 use borrow.Author.Needs.{needs}
-use lib.ListN.{length, take}
-use Rattle.columns.proofs.Row.{filled, fill-bad, fill-word}
 use Rattle.columns.proofs.read_numbers.Statement.{statement}
 use Rattle.columns.proofs.read_numbers.Tie as tie
 

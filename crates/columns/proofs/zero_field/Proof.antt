@@ -1,9 +1,8 @@
 use denote.Ref.{now}
-use mathlib.Core.Path.{_≡_, sym, ap, _∙_}
+use mathlib.Core.Path.{sym}
 use borrow.Author.Tests.{eq-eqb, ne-eqb}
 use Rattle.columns.specs.Columns.{zeroField}
 use Rattle.columns.proofs.Row.{number-is}
-use Rattle.columns.specs.Columns.{wordIn}
 use borrow.Author.Needs.{needs}
 use Rattle.columns.proofs.zero_field.Statement.{statement}
 use Rattle.columns.proofs.zero_field.Tie as tie

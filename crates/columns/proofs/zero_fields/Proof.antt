@@ -1,10 +1,9 @@
 use denote.Ref.{now}
 use mathlib.Core.Path.{_≡_, refl, sym, ap, _∙_}
-use Prim.Native.Nat.{ℕ, _≤_, _<_, _+_, _-_}
+use Prim.Native.Nat.{_≤_, _+_, _-_}
 use native.Mathlib.Omega.{arith}
 use native.Mathlib.Nat.{add-sub-cancel-left}
 use borrow.Author.Needs.{needs}
-use Rattle.units.specs.Answers.{passed, refused}
 use Rattle.columns.specs.Columns.{zeros}
 use Rattle.columns.specs.Cases.{flawOf, checkedOf}
 use Rattle.columns.proofs.Zeros.{zeros-on, zeros-bad, zeros-done}

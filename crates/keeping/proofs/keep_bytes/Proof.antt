@@ -1,9 +1,9 @@
 use denote.Ref.{now}
-use mathlib.Core.Path.{_≡_, refl, sym, ap, _∙_}
-use Prim.Native.Nat.{ℕ, _+_, _-_, _≤_, _<_}
+use mathlib.Core.Path.{sym, _∙_}
+use Prim.Native.Nat.{_-_}
 use native.Mathlib.Omega.{arith}
-use lib.ListN.{length, take}
-use lib.Seq.{sets, length-take-le}
+use lib.ListN.{length}
+use lib.Seq.{length-take-le}
 use Rattle.keeping.proofs.Keeping.{sets-out, sets-cut}
 use borrow.Author.Needs.{needs}
 use Rattle.keeping.proofs.keep_bytes.Statement.{statement}

@@ -1,12 +1,12 @@
 use Rattle.units.specs.Units.{bytesOfWords}
-use mathlib.Core.List.{List, [], _∷_}
+use mathlib.Core.List.{[], _∷_}
 use denote.Ref.{now}
-use mathlib.Core.Path.{_≡_, refl, sym, ap, _∙_}
-use Prim.Native.Nat.{ℕ, suc, _+_, _*_, _/_, _%_, _≤_, _<_}
+use mathlib.Core.Path.{sym}
+use Prim.Native.Nat.{suc, _*_, _/_, _%_}
 use native.Mathlib.Omega.{arith}
 use native.Mathlib.Numerals.{add-one}
-use lib.ListN.{length, set, length-set}
-use lib.Seq.{sets, set-out}
+use lib.ListN.{set, length-set}
+use lib.Seq.{set-out}
 use Rattle.words.specs.Words.{bytesOf}
 use Rattle.keeping.proofs.Keeping.{sets-out}
 use borrow.Author.Needs.{needs}

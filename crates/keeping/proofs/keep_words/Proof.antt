@@ -1,10 +1,10 @@
 use denote.Ref.{now}
 use mathlib.Core.Path.{_≡_, refl, sym, ap, _∙_}
-use mathlib.Core.List.{List, [], _∷_}
-use Prim.Native.Nat.{ℕ, _+_, _-_, _*_, _≤_, _<_}
+use mathlib.Core.List.{[], _∷_}
+use Prim.Native.Nat.{_+_, _-_, _*_}
 use native.Mathlib.Omega.{arith}
 use borrow.Author.Needs.{needs}
-use lib.ListN.{length, length-set, getD}
+use lib.ListN.{length, getD}
 use lib.Seq.{sets, slice, length-sets}
 use Rattle.words.specs.Words.{bytesOf}
 use Rattle.keeping.proofs.Keeping.{sets-out, word-on, words-done}

@@ -3,7 +3,6 @@ use mathlib.Core.Path.{refl}
 use denote.Ref.{now}
 use native.Mathlib.Omega.{arith}
 use Rattle.sheet.proofs.Stores.{added}
-use Rattle.sheet.proofs.Entries.{entry-added}
 use Rattle.sheet.proofs.Sheets.{length-sheet}
 use Rattle.sheet.specs.Sheets.{version1, entriesOf}
 use borrow.Author.Needs.{needs}

@@ -1,9 +1,9 @@
 use Rattle.sheet.proofs.Stores.{cleared-on, cleared}
-use Prim.Native.Nat.{ℕ, _+_, _-_, _≤_, _<_}
-use mathlib.Core.List.{List, [], _∷_, _++_}
-use mathlib.Core.Path.{_≡_, refl, ap, _∙_}
+use Prim.Native.Nat.{_-_, _≤_}
+use mathlib.Core.List.{_++_}
+use mathlib.Core.Path.{_≡_, refl, _∙_}
 use native.Mathlib.Omega.{arith}
-use lib.ListN.{length, length-set, drop-of-length-le, replicate, drop}
+use lib.ListN.{length, length-set, replicate, drop}
 use Rattle.sheet.proofs.clear.Statement.{statement}
 use Rattle.sheet.proofs.clear.Tie as tie
 use borrow.Author.Needs.{needs}

@@ -1,7 +1,6 @@
-use Rattle.sheet.specs.Sheets.{numberAt}
-use mathlib.Core.Path.{_≡_, sym, ap, _∙_}
+use mathlib.Core.Path.{sym, _∙_}
 use borrow.Author.Tests.{eq-eqb, ne-eqb, le-ltb, lt-ltb}
-use lib.ListN.{length, getD}
+use lib.ListN.{length}
 use denote.Ref.{now}
 use Rattle.sheet.specs.Sheets.{broken}
 use borrow.Author.Needs.{needs}

@@ -1,16 +1,15 @@
 use Prim.Native.Nat.{ℕ, _*_}
-use lib.ListN.{length, drop}
+use lib.ListN.{length}
 use lib.Dec.{eqb}
 use mathlib.Core.Bool.{not}
 use Rattle.record.specs.Judging.{passing, isZero, wordWithin}
-use Rattle.words.specs.Words.{wordsOf}
-use Rattle.sheet.specs.Sheets.{numbersIn, zeros}
+use Rattle.sheet.specs.Sheets.{zeros}
 use Rattle.sheet.proofs.Stores.{words-past}
-use mathlib.Core.Path.{_≡_, sym, ap, ap₂, _∙_}
+use mathlib.Core.Path.{ap, ap₂, _∙_}
 use denote.Ref.{now}
 use native.Mathlib.Omega.{arith}
-use Rattle.record.proofs.Scan.{part-scan, scan-same, zero-within}
-use Rattle.words.proofs.Laws.{length-wordsOf, words-slice}
+use Rattle.record.proofs.Scan.{scan-same, zero-within}
+use Rattle.words.proofs.Laws.{length-wordsOf}
 use borrow.Author.Needs.{needs}
 use Rattle.sheet.proofs.more_stands.Statement.{statement}
 use Rattle.sheet.proofs.more_stands.Tie as tie

@@ -1,6 +1,5 @@
-use mathlib.Core.Path.{_≡_, ap, _∙_}
-use Prim.Native.Nat.{_+_, _-_}
-use lib.ListN.{getD, take, drop}
+use mathlib.Core.Path.{ap, _∙_}
+use lib.ListN.{getD}
 use denote.Ref.{now}
 use native.Mathlib.Omega.{arith}
 use Rattle.words.specs.Words.{wordsOf}

@@ -2,7 +2,7 @@ use denote.Ref.{now}
 use Rattle.sheet.specs.Sheets.{opened, version1}
 use Rattle.sheet.proofs.Stores.{unbroken-size}
 use native.Mathlib.Omega.{arith}
-use mathlib.Core.Path.{_≡_, sym, ap, _∙_}
+use mathlib.Core.Path.{sym, _∙_}
 use borrow.Author.Needs.{needs}
 use Rattle.sheet.proofs.open.Statement.{statement}
 use Rattle.sheet.proofs.open.Tie as tie

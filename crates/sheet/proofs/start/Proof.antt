@@ -1,12 +1,12 @@
 use denote.Ref.{now}
 use lib.ListN.{length, length-set}
 use native.Mathlib.Omega.{arith}
-use mathlib.Core.Path.{_≡_, ap, _∙_}
+use mathlib.Core.Path.{ap}
 use Rattle.units.specs.Answers.{answer}
 use Rattle.words.specs.Outcomes.{leaves}
 use borrow.Author.Tests.{eq-eqb, ne-eqb}
 use Rattle.sheet.proofs.Stores.{start-put}
-use Rattle.sheet.specs.Sheets.{started, version1}
+use Rattle.sheet.specs.Sheets.{started}
 use borrow.Author.Needs.{needs}
 use Rattle.sheet.proofs.start.Statement.{statement}
 use Rattle.sheet.proofs.start.Tie as tie

@@ -1,13 +1,6 @@
-use Rattle.reading.proofs.ToCome.{card-less, fields-less}
-use mathlib.Core.Path.{_≡_, refl, sym, ap, _∙_}
-use mathlib.Core.List.{List, [], _∷_}
-use Prim.Native.Nat.{ℕ}
+use Rattle.reading.proofs.ToCome.{card-less, fields-less, none-to-come}
+use mathlib.Core.Path.{sym, _∙_}
 use native.Mathlib.Omega.{arith}
-use native.Mathlib.Nat.{add-zero}
-use borrow.Author.Tests.{eq-eqb, ne-eqb}
-use Rattle.words.specs.Words.{bytesOf}
-use Rattle.heading.specs.State.{toCome}
-use Rattle.reading.proofs.ToCome.{none-to-come}
 use Rattle.text.proofs.Ends.{inside, no-record, all-read}
 use borrow.Author.Needs.{needs}
 use Rattle.text.proofs.at_end.Statement.{statement}

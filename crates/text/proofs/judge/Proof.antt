@@ -1,8 +1,6 @@
 use Rattle.text.proofs.Outcome.{too-long, line-by-line, counted}
-use lib.ListN.{length}
-use Prim.Native.Nat.{ℕ}
 use denote.Ref.{now}
-use mathlib.Core.Path.{_≡_, refl, sym, ap, _∙_}
+use mathlib.Core.Path.{sym, ap, _∙_}
 use mathlib.Core.List.{[]}
 use Rattle.text.specs.Content.{kept}
 use Rattle.text.specs.Block.{wordsIn}

@@ -1,6 +1,5 @@
-use mathlib.Core.Path.{_≡_, refl, sym, ap, _∙_}
+use mathlib.Core.Path.{sym, ap, _∙_}
 use native.Mathlib.Omega.{arith}
-use Rattle.units.specs.Answers.{Packs}
 use Rattle.text.specs.Cases.{blockedOf}
 use borrow.Author.Needs.{needs}
 use Rattle.text.proofs.numbers.Statement.{statement}

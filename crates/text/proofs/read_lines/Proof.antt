@@ -1,19 +1,15 @@
-use Rattle.text.proofs.Loop.{near-next}
+use Rattle.text.proofs.Loop.{near-next, Going, turn, end}
 use denote.Ref.{now}
 use mathlib.Core.Path.{_≡_, refl, sym, ap, _∙_}
 use mathlib.Core.List.{List, [], _∷_}
-use Prim.Native.Nat.{ℕ, suc, _+_, _-_, _*_, _≤_, _<_}
+use Prim.Native.Nat.{ℕ, _-_}
 use native.Mathlib.Omega.{arith}
-use native.Mathlib.Numerals.{add-one}
 use borrow.Author.Needs.{needs}
 use lib.ListN.{length, take, drop, drop-of-length-le}
 use Rattle.cutting.specs.Cutting.{linesIn}
-use Rattle.columns.specs.Cases.{flawOf}
-use Rattle.heading.specs.Heading.{Shape}
-use Rattle.reading.specs.Reading.{readLines, lineStep}
-use Rattle.heading.specs.State.{toCome, stepOf, Near}
+use Rattle.reading.specs.Reading.{readLines}
+use Rattle.heading.specs.State.{toCome, stepOf}
 use Rattle.text.specs.Content.{kept}
-use Rattle.text.proofs.Loop.{Going, turn, end}
 use Rattle.text.proofs.read_lines.Statement.{statement}
 use Rattle.text.proofs.read_lines.Tie as tie
 

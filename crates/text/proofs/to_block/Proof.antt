@@ -1,6 +1,5 @@
 use denote.Ref.{now}
-use mathlib.Core.Path.{_≡_, refl, sym, ap, _∙_}
-use mathlib.Core.List.{[]}
+use mathlib.Core.Path.{sym, ap, _∙_}
 use Rattle.text.specs.Cases.{contentOf}
 use Rattle.text.proofs.Outcome.{refused-is}
 use borrow.Author.Needs.{needs}
