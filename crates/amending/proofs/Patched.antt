@@ -22,7 +22,7 @@ use Rattle.record.proofs.Values.{ValueAt, value-at}
 use Rattle.block.specs.Rules.{blockOf, IsBlock}
 use Rattle.block.proofs.Exact.{frame-of, words-are}
 use Rattle.sheet.specs.Sheets.{Entry}
-use Rattle.amending.specs.Places.{recordNumber, wordNumber, recordIn, noRecord, found, valuePlace, withValue}
+use Rattle.amending.specs.Places.{recordNumber, wordNumber, recordIn, noRecord, found, valuePlace, withValue, patched}
 use Rattle.amending.proofs.Numbered.{is-record}
 
 -- ---- a word of a frame
@@ -93,8 +93,7 @@ module _ (b : List ℕ) (rs : List (List ℕ)) (g : IsBlock b rs) (e : Entry) (a
       ∙ getD-joined rs (recordNumber e - 1) (wordNumber e - 1) there room
 
   -- a value put there, and the checksum patched: the block of the records with this value
-  pub value-put : (v : ℕ) → let last = length (wordsOf b) - 1 in
-      sets (sets b (bytesOfWords at) (bytesOf (v ∷ []))) (bytesOfWords last) (bytesOf (bitXor (bitXor (getD (wordsOf b) last 0) (found rs e)) v ∷ [])) ≡ blockOf (withValue rs e v)
+  pub value-put : (v : ℕ) → patched b at (found rs e) v ≡ blockOf (withValue rs e v)
   unfolding withValue
   value-put v =
       let i = recordNumber e - 1 in

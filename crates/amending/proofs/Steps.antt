@@ -15,7 +15,7 @@ use Rattle.words.specs.Words.{joined}
 use Rattle.record.specs.Values.{isValue}
 use Rattle.sheet.specs.Sheets.{Layout, Entry}
 use Rattle.amending.specs.Places.{recordNumber, wordNumber, oldValue, newValue, recordIn, noRecord, found, valuePlace, withValue, stands}
-use Rattle.amending.specs.Amending.{standing, amendable, undoable, lastOf, othersOf}
+use Rattle.amending.specs.Amending.{both, amendable, undoable, lastOf, othersOf}
 use Rattle.amending.proofs.Patched.{NamesValue}
 
 -- there is no such record, or no such value in it
@@ -35,47 +35,47 @@ no-place rs n w r = by (noRecord rs n) (isValue (recordIn rs n) w) (length (join
 -- ---- amend
 
 module _ (y : Layout) (e : Entry) (rs : List (List ℕ)) (es : List Entry) where
-  pub amend-full : y .limit ≤ length es → amendable y e (standing rs es) ≡ refused (answer 44 0 0 0)
+  pub amend-full : y .limit ≤ length es → amendable y e (both rs es) ≡ refused (answer 44 0 0 0)
   unfolding amendable
   amend-full h = simp (le-leb (y .limit) (length es) h)
 
   module _ (room : length es < y .limit) where
     -- rows 41 and 42 are those of the place
-    pub amend-no-place : (r : Answer) → valuePlace rs (recordNumber e) (wordNumber e) ≡ refused r → amendable y e (standing rs es) ≡ refused r
+    pub amend-no-place : (r : Answer) → valuePlace rs (recordNumber e) (wordNumber e) ≡ refused r → amendable y e (both rs es) ≡ refused r
     unfolding amendable
     amend-no-place r q = by (no-place rs (recordNumber e) (wordNumber e) r q)
       where
-        by : NoPlace rs (recordNumber e) (wordNumber e) r → amendable y e (standing rs es) ≡ refused r
+        by : NoPlace rs (recordNumber e) (wordNumber e) r → amendable y e (both rs es) ≡ refused r
         by (inl n) = simp (lt-leb (y .limit) (length es) room, n .0, n .1)
         by (inr n) = simp (lt-leb (y .limit) (length es) room, n .0, n .1, n .2)
 
     module _ (there : noRecord rs (recordNumber e) ≡ false) (value : isValue (recordIn rs (recordNumber e)) (wordNumber e) ≡ true) where
-      pub amend-differs : (oldValue e ≡ found rs e → ⊥) → amendable y e (standing rs es) ≡ refused (answer 43 (found rs e) 0 0)
+      pub amend-differs : (oldValue e ≡ found rs e → ⊥) → amendable y e (both rs es) ≡ refused (answer 43 (found rs e) 0 0)
       unfolding amendable
       amend-differs n = simp (lt-leb (y .limit) (length es) room, there, value, ne-eqb (oldValue e) (found rs e) n)
 
-      pub amend-passes : oldValue e ≡ found rs e → amendable y e (standing rs es) ≡ passed (standing (withValue rs e (newValue e)) (es ++ e ∷ []))
+      pub amend-passes : oldValue e ≡ found rs e → amendable y e (both rs es) ≡ passed (both (withValue rs e (newValue e)) (es ++ e ∷ []))
       unfolding amendable
       amend-passes q = simp (lt-leb (y .limit) (length es) room, there, value, eq-eqb (oldValue e) (found rs e) q)
 
 -- ---- undo
 
 module _ (rs : List (List ℕ)) (es : List Entry) where
-  pub undo-empty : length es ≡ 0 → undoable (standing rs es) ≡ refused (answer 45 0 0 0)
+  pub undo-empty : length es ≡ 0 → undoable (both rs es) ≡ refused (answer 45 0 0 0)
   unfolding undoable
   undo-empty z = simp (eq-eqb (length es) 0 z)
 
   -- the last entry stands, or row 46
   module _ (some : 1 ≤ length es) where
-    pub undo-standing : stands rs (lastOf es) ≡ true → undoable (standing rs es) ≡ passed (standing (withValue rs (lastOf es) (oldValue (lastOf es))) (othersOf es))
+    pub undo-standing : stands rs (lastOf es) ≡ true → undoable (both rs es) ≡ passed (both (withValue rs (lastOf es) (oldValue (lastOf es))) (othersOf es))
     unfolding undoable
     undo-standing q = simp (ne-eqb (length es) 0 (λ z. omega arith), q)
 
-    undo-not-standing : stands rs (lastOf es) ≡ false → undoable (standing rs es) ≡ refused (answer 46 0 0 0)
+    undo-not-standing : stands rs (lastOf es) ≡ false → undoable (both rs es) ≡ refused (answer 46 0 0 0)
     unfolding undoable
     undo-not-standing q = simp (ne-eqb (length es) 0 (λ z. omega arith), q)
 
-    pub undo-no-place : (r : Answer) → let e = lastOf es in valuePlace rs (recordNumber e) (wordNumber e) ≡ refused r → undoable (standing rs es) ≡ refused (answer 46 0 0 0)
+    pub undo-no-place : (r : Answer) → let e = lastOf es in valuePlace rs (recordNumber e) (wordNumber e) ≡ refused r → undoable (both rs es) ≡ refused (answer 46 0 0 0)
     unfolding stands
     undo-no-place r q = undo-not-standing (by (no-place rs (recordNumber (lastOf es)) (wordNumber (lastOf es)) r q))
       where
@@ -83,7 +83,7 @@ module _ (rs : List (List ℕ)) (es : List Entry) where
         by (inl n) = simp (n .0)
         by (inr n) = simp (n .0, n .1)
 
-    pub undo-differs : (at : ℕ) → NamesValue rs (lastOf es) at → (newValue (lastOf es) ≡ found rs (lastOf es) → ⊥) → undoable (standing rs es) ≡ refused (answer 46 0 0 0)
+    pub undo-differs : (at : ℕ) → NamesValue rs (lastOf es) at → (newValue (lastOf es) ≡ found rs (lastOf es) → ⊥) → undoable (both rs es) ≡ refused (answer 46 0 0 0)
     unfolding stands
     undo-differs at h n = undo-not-standing (simp (h .there, h .value, ne-eqb (newValue (lastOf es)) (found rs (lastOf es)) n))
 

@@ -14,62 +14,68 @@ use Rattle.sheet.specs.Sheets.{Layout, Entry, sheetOf, entriesOf, opened}
 use Rattle.amending.specs.Places.{recordNumber, oldValue, newValue, noRecord, noValue, found, withValue, stands}
 
 -- the four numbers, and both buffers afterwards
-pub record Amended : Type 0 where
+pub record Outcome : Type 0 where
   pub answer : Answer
   pub block : List ℕ
   pub sheet : List ℕ
 
 -- an answer, and the buffers as they are then
-abbrev pub buffers : Answer → List ℕ → List ℕ → Amended
+abbrev pub buffers : Answer → List ℕ → List ℕ → Outcome
 buffers r block sheet = record { answer = r; block = block; sheet = sheet }
 
--- the records of a block and the entries of a sheet
-pub record Standing : Type 0 where
+-- the records of a block, and the entries of its sheet
+pub record Both : Type 0 where
   pub records : List (List ℕ)
   pub entries : List Entry
 
-abbrev pub standing : List (List ℕ) → List Entry → Standing
-standing rs es = record { records = rs; entries = es }
+-- these records and these entries
+abbrev pub both : List (List ℕ) → List Entry → Both
+both rs es = record { records = rs; entries = es }
 
 -- "44, 41, 42, 43"; then it "writes the new value at its place, adds its own entry after the last and raises the count by one"
-unfoldable pub amendable : Layout → Entry → Standing → Verdict Standing
+unfoldable pub amendable : Layout → Entry → Both → Verdict Both
 amendable y e t =
     let rs = t .records in
     if leb (y .limit) (length (t .entries)) then refused (answer 44 0 0 0)
     else if noRecord rs (recordNumber e) then refused (answer 41 0 0 0)
     else if noValue rs e then refused (answer 42 0 0 0)
     else if not (eqb (oldValue e) (found rs e)) then refused (answer 43 (found rs e) 0 0)
-    else passed (standing (withValue rs e (newValue e)) (t .entries ++ e ∷ []))
+    else passed (both (withValue rs e (newValue e)) (t .entries ++ e ∷ []))
 
--- the last of the entries, and those before it
+-- the last of the entries
 abbrev pub lastOf : List Entry → Entry
 lastOf es = getD es (length es - 1) []
 
+-- those before it
 abbrev pub othersOf : List Entry → List Entry
 othersOf es = take (length es - 1) es
 
 -- "45, 46"; then it "puts the last entry's old value back, clears the entry to zero and lowers the count by one"
-unfoldable pub undoable : Standing → Verdict Standing
+unfoldable pub undoable : Both → Verdict Both
 undoable t =
     let e = lastOf (t .entries) in
     if eqb (length (t .entries)) 0 then refused (answer 45 0 0 0)
     else if not (stands (t .records) e) then refused (answer 46 0 0 0)
-    else passed (standing (withValue (t .records) e (oldValue e)) (othersOf (t .entries)))
+    else passed (both (withValue (t .records) e (oldValue e)) (othersOf (t .entries)))
 
 -- "Success is n = 0 with a = ... standing amendments"; "Both keep the checksum right"; "Every refusal leaves every buffer untouched"
-abbrev pub leaving : Layout → List ℕ → List ℕ → Verdict Standing → Amended
+abbrev pub leaving : Layout → List ℕ → List ℕ → Verdict Both → Outcome
 leaving y block sheet (refused r) = buffers r block sheet
 leaving y block sheet (passed t) = buffers (answer 0 (length (t .entries)) 0 0) (blockOf (t .records)) (sheetOf y (t .entries))
 
--- "block, 40", and then what the call does with the records and the entries
-unfoldable pub onBoth : Layout → (Standing → Verdict Standing) → List ℕ → List ℕ → Amended
+-- what is left where a call does this with the records and the entries
+abbrev pub doing : Layout → (Both → Verdict Both) → List ℕ → List ℕ → Outcome
+doing y does block sheet = leaving y block sheet (does (both (recordsOf block) (entriesOf y sheet)))
+
+-- "block, 40", and then what the call does
+unfoldable pub onBoth : Layout → (Both → Verdict Both) → List ℕ → List ℕ → Outcome
 onBoth y does block sheet =
-    leaving y block sheet (onward (judged block) (λ _. onward (opened y sheet) (λ _. does (standing (recordsOf block) (entriesOf y sheet)))))
+    leaving y block sheet (onward (judged block) (λ _. onward (opened y sheet) (λ _. does (both (recordsOf block) (entriesOf y sheet)))))
 
 -- "Amend: block, 40, 44, 41, 42, 43"
-abbrev pub amend : Layout → Entry → List ℕ → List ℕ → Amended
+abbrev pub amend : Layout → Entry → List ℕ → List ℕ → Outcome
 amend y e = onBoth y (amendable y e)
 
 -- "Undo: block, 40, 45, 46"
-abbrev pub undo : Layout → List ℕ → List ℕ → Amended
+abbrev pub undo : Layout → List ℕ → List ℕ → Outcome
 undo y = onBoth y undoable

@@ -4,8 +4,8 @@ use Rattle.units.specs.declared.Answer.{Answer}
 use Rattle.units.specs.Answers.{answer, Verdict, passed, refused}
 use Rattle.block.specs.Cases as block
 use Rattle.amending.specs.declared.Refusal.{Refusal}
-use Rattle.amending.specs.declared.Refusal.the-variants.{Block, Layout, NoRecord, NoValue, Differs, Full, Empty, NotStanding}
-use Rattle.amending.specs.declared.Amended as amended
+use Rattle.amending.specs.declared.Refusal.the-variants.{Block, Broken, NoRecord, NoValue, Differs, Full, Empty, NotStanding}
+use Rattle.amending.specs.declared.Amended.{Amended}
 use Rattle.amending.specs.declared.Amended.the-variants.{Standing, Refused}
 use Rattle.amending.specs.declared.Spot.{Spot}
 use Rattle.amending.specs.declared.Spot.the-variants as spot
@@ -13,7 +13,7 @@ use Rattle.amending.specs.declared.Spot.the-variants as spot
 -- the block's refusals, and rows 40 to 46
 abbrev pub refusalOf : Refusal → Answer
 refusalOf (Block r) = block.refusalOf r
-refusalOf Layout = answer 40 0 0 0
+refusalOf Broken = answer 40 0 0 0
 refusalOf NoRecord = answer 41 0 0 0
 refusalOf NoValue = answer 42 0 0 0
 refusalOf (Differs found) = answer 43 found 0 0
@@ -22,7 +22,7 @@ refusalOf Empty = answer 45 0 0 0
 refusalOf NotStanding = answer 46 0 0 0
 
 -- so many amendments stand, or the refusal
-abbrev pub amendedOf : amended.Amended → Verdict ℕ
+abbrev pub amendedOf : Amended → Verdict ℕ
 amendedOf (Standing count) = passed count
 amendedOf (Refused r) = refused (refusalOf r)
 

@@ -1,12 +1,15 @@
 -- Document 01, "The amendment sheet": the place that an entry names, in the records of a block.
 use Prim.Native.Nat.{ℕ, _+_, _-_}
-use mathlib.Core.List.{List, []}
+use mathlib.Core.List.{List, [], _∷_}
 use mathlib.Core.Bool.{Bool, not, _&&_, _||_}
 use lib.Dec.{eqb, ltb}
 use lib.ListN.{length, getD, take, set}
 use Rattle.units.specs.Choice.{if_then_else_}
 use Rattle.units.specs.Answers.{answer, Verdict, passed, refused}
-use Rattle.words.specs.Words.{word, joined}
+use lib.Bits.{bitXor}
+use lib.Seq.{sets}
+use Rattle.units.specs.Units.{bytesOfWords}
+use Rattle.words.specs.Words.{word, wordsOf, bytesOf, joined}
 use Rattle.record.specs.Values.{isValue}
 use Rattle.sheet.specs.Sheets.{Entry}
 
@@ -53,3 +56,9 @@ withValue rs e v = set rs (recordNumber e - 1) (set (recordIn rs (recordNumber e
 -- row 46, the other way round: the entry names a value place, and its new value stands there
 unfoldable pub stands : List (List ℕ) → Entry → Bool
 stands rs e = not (noRecord rs (recordNumber e)) && (not (noValue rs e) && eqb (newValue e) (found rs e))
+
+-- a block with a value put in behind so many words, and "patched with old and new word" its last one
+abbrev pub patched : List ℕ → ℕ → ℕ → ℕ → List ℕ
+patched block at old new =
+    let last = length (wordsOf block) - 1 in
+    sets (sets block (bytesOfWords at) (bytesOf (new ∷ []))) (bytesOfWords last) (bytesOf (bitXor (bitXor (getD (wordsOf block) last 0) old) new ∷ []))

@@ -21,15 +21,15 @@ ghost use Rattle.block.specs.Records.{recordsOf};
 ghost use Rattle.sheet.specs.Sheets.{version1, entriesOf, opened};
 ghost use Rattle.sheet.specs.Rules.{KeepsLayout};
 ghost use Rattle.sheet.specs.Cases.{entryOf};
-ghost use Rattle.amending.specs.Places.{valuePlace};
+ghost use Rattle.amending.specs.Places.{valuePlace, patched};
 ghost use Rattle.amending.specs.Amending as spec;
-ghost use Rattle.amending.specs.Amending.{buffers, leaving, standing, amendable, undoable};
+ghost use Rattle.amending.specs.Amending.{buffers, doing, amendable, undoable};
 ghost use Rattle.amending.specs.Cases.{refusalOf, amendedOf, spotOf};
 
 // Why an amendment or its undoing is refused.
 pub enum Refusal {
     Block(block::Refusal),
-    Layout,
+    Broken,
     NoRecord,
     NoValue,
     Differs(u16),
@@ -82,7 +82,7 @@ fn find_value(block: &[u8], number: u16, word: u16) -> Spot
 // Puts a value in place of the old one, and patches the checksum with both.
 fn put_value(block: &mut [u8], at: Words, old: u16, new: u16)
     requires { ⌜ at .0 + 1 < length (wordsOf (now block)) ⌝ }
-    ensures { λ _. ⌜ now (block .exit) ≡ sets (sets (now (block .entry)) (bytesOfWords (at .0)) (bytesOf (new ∷ []))) (bytesOfWords (length (wordsOf (now (block .entry))) - 1)) (bytesOf (bitXor (bitXor (getD (wordsOf (now (block .entry))) (length (wordsOf (now (block .entry))) - 1) 0) old) new ∷ [])) ⌝ }
+    ensures { λ _. ⌜ now (block .exit) ≡ patched (now (block .entry)) (at .0) old new ⌝ }
 {
     let last = words::count(block).0 - 1;
     let checksum = words::word_at(block, Words(last));
@@ -100,19 +100,20 @@ fn look(block: &[u8], sheet: &[u8]) -> Amended
     }
 }
 
+// Opens the sheet, once the block is judged.
 fn look_at_sheet(sheet: &[u8]) -> Amended
     ensures { λ r. ⌜ amendedOf r ≡ opened version1 (now (sheet .entry)) ⌝ }
 {
     match sheet::open(sheet) {
-        Opened::Broken => Amended::Refused(Refusal::Layout),
+        Opened::Broken => Amended::Refused(Refusal::Broken),
         Opened::Standing(count) => Amended::Standing(count),
     }
 }
 
 // Amends the value behind `at` words, if its old value stands there.
 fn amend_at(block: &mut [u8], sheet: &mut [u8], count: u16, at: Words, e: Amendment) -> Amended
-    requires { ⌜ Accepted (now block) × KeepsLayout version1 (now sheet) × (count ≡ length (entriesOf version1 (now sheet))) × (count < 64) × (valuePlace (recordsOf (now block)) (e .number) (e .word) ≡ passed (at .0)) ⌝ }
-    ensures { λ r. ⌜ buffers (answered (amendedOf r)) (now (block .exit)) (now (sheet .exit)) ≡ leaving version1 (now (block .entry)) (now (sheet .entry)) (amendable version1 (entryOf e) (standing (recordsOf (now (block .entry))) (entriesOf version1 (now (sheet .entry))))) ⌝ }
+    requires { ⌜ Accepted (now block) × KeepsLayout version1 (now sheet) × (count ≡ length (entriesOf version1 (now sheet))) × (count < version1 .limit) × (valuePlace (recordsOf (now block)) (e .number) (e .word) ≡ passed (at .0)) ⌝ }
+    ensures { λ r. ⌜ buffers (answered (amendedOf r)) (now (block .exit)) (now (sheet .exit)) ≡ doing version1 (amendable version1 (entryOf e)) (now (block .entry)) (now (sheet .entry)) ⌝ }
 {
     let found = words::word_at(block, at);
     let old = e.old;
@@ -127,7 +128,7 @@ fn amend_at(block: &mut [u8], sheet: &mut [u8], count: u16, at: Words, e: Amendm
 // Amends a good block, where `count` amendments stand.
 fn amend_next(block: &mut [u8], sheet: &mut [u8], count: u16, e: Amendment) -> Amended
     requires { ⌜ Accepted (now block) × KeepsLayout version1 (now sheet) × (count ≡ length (entriesOf version1 (now sheet))) ⌝ }
-    ensures { λ r. ⌜ buffers (answered (amendedOf r)) (now (block .exit)) (now (sheet .exit)) ≡ leaving version1 (now (block .entry)) (now (sheet .entry)) (amendable version1 (entryOf e) (standing (recordsOf (now (block .entry))) (entriesOf version1 (now (sheet .entry))))) ⌝ }
+    ensures { λ r. ⌜ buffers (answered (amendedOf r)) (now (block .exit)) (now (sheet .exit)) ≡ doing version1 (amendable version1 (entryOf e)) (now (block .entry)) (now (sheet .entry)) ⌝ }
 {
     if sheet::LIMIT <= count {
         return Amended::Refused(Refusal::Full);
@@ -152,7 +153,7 @@ pub fn amend(block: &mut [u8], sheet: &mut [u8], e: Amendment) -> Amended
 // Puts the old value back behind `at` words, if the new one stands there.
 fn undo_at(block: &mut [u8], sheet: &mut [u8], left: u16, at: Words, e: Amendment) -> Amended
     requires { ⌜ Accepted (now block) × KeepsLayout version1 (now sheet) × (left + 1 ≡ length (entriesOf version1 (now sheet))) × (entryOf e ≡ getD (entriesOf version1 (now sheet)) left []) × (valuePlace (recordsOf (now block)) (e .number) (e .word) ≡ passed (at .0)) ⌝ }
-    ensures { λ r. ⌜ buffers (answered (amendedOf r)) (now (block .exit)) (now (sheet .exit)) ≡ leaving version1 (now (block .entry)) (now (sheet .entry)) (undoable (standing (recordsOf (now (block .entry))) (entriesOf version1 (now (sheet .entry))))) ⌝ }
+    ensures { λ r. ⌜ buffers (answered (amendedOf r)) (now (block .exit)) (now (sheet .exit)) ≡ doing version1 undoable (now (block .entry)) (now (sheet .entry)) ⌝ }
 {
     let new = e.new;
     if new != words::word_at(block, at) {
@@ -166,7 +167,7 @@ fn undo_at(block: &mut [u8], sheet: &mut [u8], left: u16, at: Words, e: Amendmen
 // Undoes the last of `count` amendments of a good block.
 fn undo_last(block: &mut [u8], sheet: &mut [u8], count: u16) -> Amended
     requires { ⌜ Accepted (now block) × KeepsLayout version1 (now sheet) × (count ≡ length (entriesOf version1 (now sheet))) ⌝ }
-    ensures { λ r. ⌜ buffers (answered (amendedOf r)) (now (block .exit)) (now (sheet .exit)) ≡ leaving version1 (now (block .entry)) (now (sheet .entry)) (undoable (standing (recordsOf (now (block .entry))) (entriesOf version1 (now (sheet .entry))))) ⌝ }
+    ensures { λ r. ⌜ buffers (answered (amendedOf r)) (now (block .exit)) (now (sheet .exit)) ≡ doing version1 undoable (now (block .entry)) (now (sheet .entry)) ⌝ }
 {
     if count == 0 {
         return Amended::Refused(Refusal::Empty);
@@ -196,7 +197,7 @@ fn refusal_numbers(r: Refusal) -> Answer
 {
     match r {
         Refusal::Block(b) => block::refusal_numbers(b),
-        Refusal::Layout => sheet::row(40, 0),
+        Refusal::Broken => sheet::row(40, 0),
         Refusal::NoRecord => sheet::row(41, 0),
         Refusal::NoValue => sheet::row(42, 0),
         Refusal::Differs(found) => sheet::row(43, found),

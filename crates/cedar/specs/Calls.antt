@@ -5,7 +5,7 @@ use Rattle.units.specs.declared.Answer.{Answer}
 use Rattle.units.specs.Answers.{answered, packedOf}
 use Rattle.words.specs.Outcomes.{Written}
 use Rattle.block.specs.Judging.{judged}
-use Rattle.amending.specs.Amending.{Amended}
+use Rattle.amending.specs.Amending.{Outcome}
 use Rattle.prefix.specs.Table.{prefixOf, answerOf}
 
 -- "Judge a binary block": the number of records, or the first refusal
@@ -40,5 +40,5 @@ abbrev pub returnedBoth : ℕ → List ℕ → List ℕ → ReturnedBoth
 returnedBoth number block sheet = record { number = number; block = block; sheet = sheet }
 
 -- "A C call returns them as one unsigned 64-bit number", here too
-abbrev pub amendedBoth : Amended → ReturnedBoth
+abbrev pub amendedBoth : Outcome → ReturnedBoth
 amendedBoth a = returnedBoth (packedOf (a .answer)) (a .block) (a .sheet)

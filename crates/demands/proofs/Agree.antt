@@ -34,7 +34,7 @@ use Rattle.amending.specs.declared.Amended.{Amended}
 use Rattle.amending.specs.declared.Amended.the-variants as amending
 use Rattle.amending.specs.declared.Refusal.the-variants as rows
 use Rattle.amending.specs.Cases.{amendedOf}
-use Rattle.amending.specs.Amending as outcome
+use Rattle.amending.specs.Amending.{Outcome}
 use Rattle.demands.specs.Agree.{JudgeAgrees, CedarJudgeAgrees, StepAgrees, FindAgrees, PrefixAgrees, CedarPrefixAgrees, LinesAgree, CedarLinesAgree, ContentAgrees, BlockAgrees, CedarBlockAgrees}
 use Rattle.demands.specs.Agree.{OpenAgrees, StartAgrees, BothAgree, AmendAgrees, UndoAgrees, CedarStartAgrees, CedarBothAgree, CedarAmendAgrees, CedarUndoAgrees}
 
@@ -197,7 +197,7 @@ cedar-start-agrees sheet r s t u p q = let e = same p q in (ap (λ w. w .number)
 amendedCase : Answer → Amended
 amendedCase r =
     if eqb (r .n) 0 then amending.Standing (r .a)
-    else if eqb (r .n) 40 then amending.Refused rows.Layout
+    else if eqb (r .n) 40 then amending.Refused rows.Broken
     else if eqb (r .n) 41 then amending.Refused rows.NoRecord
     else if eqb (r .n) 42 then amending.Refused rows.NoValue
     else if eqb (r .n) 43 then amending.Refused (rows.Differs (r .a))
@@ -209,7 +209,7 @@ amendedCase r =
 amended-back : (a : Amended) → amendedCase (answered (amendedOf a)) ≡ a
 unfolding amendedCase refusalCase
 amended-back (amending.Standing count) = refl
-amended-back (amending.Refused rows.Layout) = refl
+amended-back (amending.Refused rows.Broken) = refl
 amended-back (amending.Refused rows.NoRecord) = refl
 amended-back (amending.Refused rows.NoValue) = refl
 amended-back (amending.Refused (rows.Differs found)) = refl
@@ -226,7 +226,7 @@ amended-back (amending.Refused (rows.Block (Record (NotZero k w)))) = refl
 amended-back (amending.Refused (rows.Block (Record (Card k w)))) = refl
 amended-back (amending.Refused (rows.Block (Record (Counts k w)))) = refl
 
-both-agree : (o : outcome.Amended) → BothAgree o
+both-agree : (o : Outcome) → BothAgree o
 both-agree o r s b c x y p q =
     let e = same p q in (sym (amended-back r) ∙ ap (λ a. amendedCase (a .answer)) e ∙ amended-back s, ap (λ a. a .block) e, ap (λ a. a .sheet) e)
 
@@ -236,7 +236,7 @@ amend-agrees e block sheet = both-agree _
 pub undo-agrees : UndoAgrees
 undo-agrees block sheet = both-agree _
 
-cedar-both-agree : (o : outcome.Amended) → CedarBothAgree o
+cedar-both-agree : (o : Outcome) → CedarBothAgree o
 cedar-both-agree o r s b c x y p q = let e = same p q in (ap (λ a. a .number) e, ap (λ a. a .block) e, ap (λ a. a .sheet) e)
 
 pub cedar-amend-agrees : CedarAmendAgrees

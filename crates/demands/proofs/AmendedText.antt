@@ -18,7 +18,7 @@ use Rattle.lines.specs.Text.{textOf}
 use Rattle.lines.specs.Columns.{columnsBefore}
 use Rattle.sheet.specs.Sheets.{Entry}
 use Rattle.amending.specs.Places.{recordNumber, newValue, found, withValue}
-use Rattle.demands.specs.Demand3.{putIn, columnOf}
+use Rattle.demands.specs.Demand3.{putIn, bytesBefore, Outside}
 use Rattle.demands.proofs.Lines.{six-columns, columns-inside, word-stands}
 use Rattle.demands.proofs.Values.{Named, Steady, Alike, its, recordsBefore, wordsBefore, steady-columns, inside, named-word, alike-count, alike-record, alike-named}
 use Rattle.demands.proofs.Stack.{Stack, put-good, put-alike, total, putIn-good, putIn-alike, stack-named}
@@ -49,7 +49,7 @@ module _ (rs ss : List (List ℕ)) (alike : Alike rs ss) where
       let n = length rs in
       ap (λ l. length (textOf l)) (sym (take-all n ss (omega (arith, alike-count rs ss alike)))) ∙ before-same n ∙ ap (λ l. length (textOf l)) (take-all n rs (omega arith))
 
-  column-same : (e : Entry) → columnOf ss e ≡ columnOf rs e
+  column-same : (e : Entry) → bytesBefore ss e ≡ bytesBefore rs e
   column-same e =
       ap₂ _+_ (before-same (recordsBefore e)) (alike-record rs ss alike (λ r. columnsBefore r (wordsBefore e)) (steady-columns (wordsBefore e)) (recordNumber e))
 
@@ -60,32 +60,28 @@ module _ (rs : List (List ℕ)) (e : Entry) (good : All RecordOk rs) (p : Named 
   around : rs ≡ take (recordsBefore e) rs ++ its rs e ∷ drop (suc (recordsBefore e)) rs
   around = split-at rs (recordsBefore e) [] (inside rs e good p)
 
-  text-amended : (v : ℕ) → textOf (withValue rs e v) ≡ sets (textOf rs) (columnOf rs e) (fieldOf v)
+  text-amended : (v : ℕ) → textOf (withValue rs e v) ≡ sets (textOf rs) (bytesBefore rs e) (fieldOf v)
   unfolding withValue
   text-amended v =
       let w = named-word rs e good p in
       ap textOf (set-split rs (recordsBefore e) (set (its rs e) (wordsBefore e) v) (inside rs e good p))
       ∙ six-columns (take (recordsBefore e) rs) (drop (suc (recordsBefore e)) rs) (its rs e) (w .ok) (w .kind) (wordsBefore e) v (w .low) (w .high)
-      ∙ ap (λ l. sets (textOf l) (columnOf rs e) (fieldOf v)) (sym around)
+      ∙ ap (λ l. sets (textOf l) (bytesBefore rs e) (fieldOf v)) (sym around)
 
   -- the columns show the value
-  text-shows : slice (columnOf rs e) (columnOf rs e + 6) (textOf rs) ≡ fieldOf (found rs e)
+  text-shows : slice (bytesBefore rs e) (bytesBefore rs e + 6) (textOf rs) ≡ fieldOf (found rs e)
   text-shows =
       let w = named-word rs e good p in
       let before = take (recordsBefore e) rs in
       let after = drop (suc (recordsBefore e)) rs in
       let j = wordsBefore e in
-      let c = columnOf rs e in
+      let c = bytesBefore rs e in
       let v = found rs e in
       ap (λ l. slice c (c + 6) (textOf l)) around
       ∙ ap (slice c (c + 6)) (word-stands before after (its rs e) (w .ok) (w .kind) j (w .low) (w .high))
       ∙ slice-sets (textOf (before ++ its rs e ∷ after)) (fieldOf v) c (c + 6) (ap (λ n. c + n) (length-fieldOf v)) (columns-inside before after (its rs e) (w .ok) (w .kind) j (w .low) (w .high))
 
 -- ---- the stack
-
--- a column that is none of the six from there on
-abbrev pub Outside : ℕ → ℕ → Type 0
-Outside i column = (i < column) ⊎ (column + 6 ≤ i)
 
 -- a run of stores leaves what stands outside of it
 sets-outside : (l vs : List ℕ) (i k : ℕ) → (k < i) ⊎ (i + length vs ≤ k) → getD (sets l i vs) k 0 ≡ getD l k 0
@@ -94,22 +90,22 @@ sets-outside l (v ∷ vs) i k (inl h) = sets-outside (set l i v) vs (suc i) k (i
 sets-outside l (v ∷ vs) i k (inr h) = sets-outside (set l i v) vs (suc i) k (inr (omega arith)) ∙ getD-set-other l i k v 0 (λ e. omega arith)
 
 pub stack-outside : (rs : List (List ℕ)) (es : List Entry) → All RecordOk rs → Stack rs es
-    → (i : ℕ) → All (λ e. Outside i (columnOf rs e)) es → getD (textOf (putIn rs es)) i 0 ≡ getD (textOf rs) i 0
+    → (i : ℕ) → All (λ e. Outside i (bytesBefore rs e)) es → getD (textOf (putIn rs es)) i 0 ≡ getD (textOf rs) i 0
 stack-outside rs [] good s i o = refl
 stack-outside rs (e ∷ es) good s i o =
     let v = newValue e in
     let ss = withValue rs e v in
     let column = column-same rs ss (put-alike rs e good (s .0)) in
-    let others = all-map (λ f. Outside i (columnOf rs f)) (λ f. Outside i (columnOf ss f)) (λ f q. subst (Outside i) (sym (column f)) q) es (o .1) in
+    let others = all-map (λ f. Outside i (bytesBefore rs f)) (λ f. Outside i (bytesBefore ss f)) (λ f q. subst (Outside i) (sym (column f)) q) es (o .1) in
     stack-outside ss es (put-good rs e good (s .0)) (s .1) i others
     ∙ ap (λ t. getD t i 0) (text-amended rs e good (s .0 .named) v)
-    ∙ sets-outside (textOf rs) (fieldOf v) (columnOf rs e) i (subst (λ n. (i < columnOf rs e) ⊎ (columnOf rs e + n ≤ i)) (sym (length-fieldOf v)) (o .0))
+    ∙ sets-outside (textOf rs) (fieldOf v) (bytesBefore rs e) i (subst (λ n. (i < bytesBefore rs e) ⊎ (bytesBefore rs e + n ≤ i)) (sym (length-fieldOf v)) (o .0))
 
 pub stack-shows : (rs : List (List ℕ)) (es : List Entry) → All RecordOk rs → Stack rs es
-    → All (λ e. slice (columnOf rs e) (columnOf rs e + 6) (textOf (putIn rs es)) ≡ fieldOf (found (putIn rs es) e)) es
+    → All (λ e. slice (bytesBefore rs e) (bytesBefore rs e + 6) (textOf (putIn rs es)) ≡ fieldOf (found (putIn rs es) e)) es
 stack-shows rs es good s =
     let ps = putIn rs es in
     let alike = putIn-alike rs es good s in
-    all-map (Named rs) (λ e. slice (columnOf rs e) (columnOf rs e + 6) (textOf ps) ≡ fieldOf (found ps e))
+    all-map (Named rs) (λ e. slice (bytesBefore rs e) (bytesBefore rs e + 6) (textOf ps) ≡ fieldOf (found ps e))
     (λ e p. subst (λ c. slice c (c + 6) (textOf ps) ≡ fieldOf (found ps e)) (column-same rs ps alike e) (text-shows ps e (putIn-good rs es good s) (alike-named rs ps alike e p)))
     es (stack-named rs es good s)

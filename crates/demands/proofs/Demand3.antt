@@ -17,11 +17,11 @@ use Rattle.lines.proofs.Outcome.{when-accepted}
 use Rattle.sheet.specs.Sheets.{Layout, Entry, sheetOf}
 use Rattle.sheet.specs.Rules.{IsEntry}
 use Rattle.sheet.proofs.Sheets.{opened-sheet}
-use Rattle.amending.specs.Amending.{Standing, standing, amendable, undoable, leaving, onBoth}
+use Rattle.amending.specs.Amending.{Both, both, amendable, undoable, leaving, onBoth}
 use Rattle.amending.proofs.Steps.{undo-empty}
-use Rattle.demands.specs.Demand3.{Call, amends, undoes, prints, ofBoth, done, doneAll, Buffers, leftBy, fresh, Takes, putIn, stacked, modelled, modelledAll, stackAfter, Accepts, ModelRule, shown, StandingPutIn, LinesDiffer, UndoneGivesBack}
+use Rattle.demands.specs.Demand3.{Call, amends, undoes, prints, ofBoth, done, doneAll, Buffers, leftBy, fresh, Takes, putIn, stacked, modelled, modelledAll, stackAfter, Accepts, ModelRule, shown, StandingPutIn, LastStands, LinesDiffer, UndoneGivesBack}
 use Rattle.demands.proofs.Values.{alike-count}
-use Rattle.demands.proofs.Stack.{putIn-append, putIn-alike, putIn-block}
+use Rattle.demands.proofs.Stack.{putIn-append, putIn-alike, putIn-block, last-stands}
 use Rattle.demands.proofs.AmendedText.{text-size, stack-outside, stack-shows}
 use Rattle.demands.proofs.Model.{Reached, none-reached, amend-either, amend-accepted, reached-on, reached-before, undo-last, from-end}
 
@@ -32,7 +32,7 @@ abbrev holding : Layout → List (List ℕ) → List Entry → Buffers
 holding y rs es = record { block = blockOf (putIn rs es); sheet = sheetOf y es }
 
 -- what passes is a stack that can be reached, and the records that it leaves of the first ones
-abbrev Tracks : Layout → List (List ℕ) → Verdict Standing → Type 0
+abbrev Tracks : Layout → List (List ℕ) → Verdict Both → Type 0
 Tracks y rs (passed t) = (t .records ≡ putIn rs (t .entries)) × Reached y rs (t .entries)
 Tracks y rs (refused r) = Unit {0}
 
@@ -48,32 +48,32 @@ module _ (y : Layout) (rs : List (List ℕ)) (good : IsBlock (blockOf rs) rs) wh
     still-judged : judged (blockOf ps) ≡ passed (length rs)
     still-judged = every-good (blockOf ps) ps still-block ∙ ap (λ k. passed k) (alike-count rs ps (putIn-alike rs es (good .each) (h .stack)))
 
-    on-both : (does : Standing → Verdict Standing) → onBoth y does (blockOf ps) (sheetOf y es) ≡ leaving y (blockOf ps) (sheetOf y es) (does (standing ps es))
+    on-both : (does : Both → Verdict Both) → onBoth y does (blockOf ps) (sheetOf y es) ≡ leaving y (blockOf ps) (sheetOf y es) (does (both ps es))
     unfolding onBoth
     on-both does =
         let o = opened-sheet y (sheetOf y es) es (record { bytes = refl; each = h .each; most = h .most }) in
         rw (still-judged, o .0, o .1, its-records (blockOf ps) ps still-block)
 
-    both-shown : (v : Verdict Standing) → Tracks y rs v → (ofBoth (leaving y (blockOf ps) (sheetOf y es) v) ≡ shown y rs (stacked es v)) × Reached y rs (stacked es v .stack)
+    both-shown : (v : Verdict Both) → Tracks y rs v → (ofBoth (leaving y (blockOf ps) (sheetOf y es) v) ≡ shown y rs (stacked es v)) × Reached y rs (stacked es v .stack)
     both-shown (refused r) s = (refl, h)
     both-shown (passed t) s = (rw (s .0) refl, s .1)
 
-    amend-tracks : (e : Entry) → IsEntry y e → Tracks y rs (amendable y e (standing ps es))
+    amend-tracks : (e : Entry) → IsEntry y e → Tracks y rs (amendable y e (both ps es))
     amend-tracks e is =
         amend-either y rs es (good .each) h e (Tracks y rs) (λ n a _. tt)
         (λ a. (sym (putIn-append rs es (e ∷ [])), reached-on y rs es (good .each) h e is a))
 
-  undo-tracks : (es : List Entry) → Reached y rs es → Tracks y rs (undoable (standing (putIn rs es) es))
+  undo-tracks : (es : List Entry) → Reached y rs es → Tracks y rs (undoable (both (putIn rs es) es))
   undo-tracks =
-      from-end (λ es. Reached y rs es → Tracks y rs (undoable (standing (putIn rs es) es))) (λ h. rw (undo-empty rs [] refl) tt)
+      from-end (λ es. Reached y rs es → Tracks y rs (undoable (both (putIn rs es) es))) (λ h. rw (undo-empty rs [] refl) tt)
       (λ before e _ h. rw (undo-last before e y rs (good .each) h) (refl, reached-before before e y rs (good .each) h))
 
   -- a call leaves what the model leaves, and that can be reached
   step : (es : List Entry) → Reached y rs es → (c : Call) → Takes y c
       → (done y (blockOf (putIn rs es)) (sheetOf y es) c ≡ shown y rs (modelled y rs es c)) × Reached y rs (modelled y rs es c .stack)
   step es h (amends e) is =
-      let p = both-shown es h (amendable y e (standing (putIn rs es) es)) (amend-tracks es h e is) in (ap ofBoth (on-both es h (amendable y e)) ∙ p .0, p .1)
-  step es h undoes is = let p = both-shown es h (undoable (standing (putIn rs es) es)) (undo-tracks es h) in (ap ofBoth (on-both es h undoable) ∙ p .0, p .1)
+      let p = both-shown es h (amendable y e (both (putIn rs es) es)) (amend-tracks es h e is) in (ap ofBoth (on-both es h (amendable y e)) ∙ p .0, p .1)
+  step es h undoes is = let p = both-shown es h (undoable (both (putIn rs es) es)) (undo-tracks es h) in (ap ofBoth (on-both es h undoable) ∙ p .0, p .1)
   step es h (prints text) is =
       let b = blockOf (putIn rs es) in (
         ap (λ w. record { answer = w .answer; block = b; sheet = sheetOf y es; out = w .out })
@@ -140,9 +140,16 @@ module _ (b : List ℕ) (k : ℕ) (bytes : Below 256 b) (accepted : judged b ≡
 
 pub standing-put-in : StandingPutIn
 standing-put-in y b k cs bytes accepted takes =
-    subst (λ c. (doneAll y c (sheetOf y []) cs ≡ map (shown y (recordsOf b)) (modelledAll y (recordsOf b) [] cs)) × All (λ d. judged (d .block) ≡ passed k) (doneAll y c (sheetOf y []) cs))
-    (sym (is-block b k bytes accepted))
-    (rw (only-good b k bytes accepted .1) at (all-shown y (recordsOf b) (first-good b k bytes accepted) [] (none-reached y (recordsOf b)) cs takes))
+    let rs = recordsOf b in
+    let all = all-shown y rs (first-good b k bytes accepted) [] (none-reached y rs) cs takes in
+    let each =
+    subst (λ c. (doneAll y c (sheetOf y []) cs ≡ map (shown y rs) (modelledAll y rs [] cs)) × All (λ d. judged (d .block) ≡ passed k) (doneAll y c (sheetOf y []) cs))
+    (sym (is-block b k bytes accepted)) (rw (only-good b k bytes accepted .1) at all) in
+    (left b k bytes accepted y cs takes .0, each .0, each .1)
+
+pub last-standing : LastStands
+last-standing y b k cs bytes accepted takes before after e q others =
+    rw q (last-stands (recordsOf b) before after e (first-good b k bytes accepted .each) (rw q at (left b k bytes accepted y cs takes .1 .stack)) others)
 
 pub model-rule : ModelRule
 model-rule y b k cs bytes accepted takes =

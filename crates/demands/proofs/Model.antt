@@ -18,7 +18,7 @@ use Rattle.record.specs.Values.{isValue}
 use Rattle.sheet.specs.Sheets.{Layout, Entry}
 use Rattle.sheet.specs.Rules.{IsEntry}
 use Rattle.amending.specs.Places.{recordNumber, wordNumber, oldValue, newValue, recordIn, noRecord, noValue, found, withValue, stands}
-use Rattle.amending.specs.Amending.{Standing, standing, amendable, lastOf, othersOf, undoable}
+use Rattle.amending.specs.Amending.{Both, both, amendable, lastOf, othersOf, undoable}
 use Rattle.amending.proofs.Numbered.{is-record, record-is}
 use Rattle.amending.proofs.Steps.{amend-passes, undo-standing, it-stands}
 use Rattle.demands.specs.Demand3.{putIn, Accepts}
@@ -56,8 +56,8 @@ module _ (y : Layout) (rs : List (List ℕ)) (es : List Entry) (good : All Recor
         }
 
     -- it is refused, or it is an amendment and stands last
-    pub amend-either : (P : Verdict Standing → Type 0) → ((n a : ℕ) → 0 < n → P (refused (answer n a 0 0)))
-        → (Accepts y rs es e → P (passed (standing (withValue ps e (newValue e)) (es ++ e ∷ [])))) → P (amendable y e (standing ps es))
+    pub amend-either : (P : Verdict Both → Type 0) → ((n a : ℕ) → 0 < n → P (refused (answer n a 0 0)))
+        → (Accepts y rs es e → P (passed (both (withValue ps e (newValue e)) (es ++ e ∷ [])))) → P (amendable y e (both ps es))
     unfolding amendable
     amend-either P refuses accepts =
         by-test P (leb (y .limit) (length es)) _ _ (λ _. refuses 44 0 (omega arith)) λ room.
@@ -67,7 +67,7 @@ module _ (y : Layout) (rs : List (List ℕ)) (es : List Entry) (good : All Recor
         accepts (told room (is-record ps (recordNumber e) has) (not-false _ value) (eqb-true (oldValue e) (found ps e) (not-false _ old)))
 
     -- an amendment is not refused
-    pub amend-accepted : Accepts y rs es e → amendable y e (standing ps es) ≡ passed (standing (withValue ps e (newValue e)) (es ++ e ∷ []))
+    pub amend-accepted : Accepts y rs es e → amendable y e (both ps es) ≡ passed (both (withValue ps e (newValue e)) (es ++ e ∷ []))
     amend-accepted a =
         let has = record-is ps (recordNumber e) (a .record-is .0) (omega (arith, a .record-is .1, alike-count rs ps alike)) in
         amend-passes y e ps es (a .room) has (alike-value rs ps alike (recordNumber e) (wordNumber e) ∙ a .value) (sym (a .old))
@@ -108,7 +108,7 @@ module _ (before : List Entry) (e : Entry) where
   others-are = take-at before (e ∷ []) (length all - 1) (omega (arith, length-all))
 
   -- and where its new value stands, its old value is put back
-  last-undone : (rs : List (List ℕ)) → stands rs e ≡ true → undoable (standing rs all) ≡ passed (standing (withValue rs e (oldValue e)) before)
+  last-undone : (rs : List (List ℕ)) → stands rs e ≡ true → undoable (both rs all) ≡ passed (both (withValue rs e (oldValue e)) before)
   last-undone rs s = rw (last-is, others-are) at (undo-standing rs all (omega (arith, length-all)) (rw last-is s))
 
   -- of a stack that can be reached, the last one goes
@@ -121,15 +121,15 @@ module _ (before : List Entry) (e : Entry) where
           stack = stack-parts rs before (e ∷ []) (h .stack) .0;
         }
 
-    pub undo-last : undoable (standing (putIn rs all) all) ≡ passed (standing (putIn rs before) before)
+    pub undo-last : undoable (both (putIn rs all) all) ≡ passed (both (putIn rs before) before)
     undo-last =
         let qs = putIn rs before in
         let g = putIn-good rs before good (reached-before .stack) in
         let fit = stack-parts rs before (e ∷ []) (h .stack) .1 .0 in
         let v = newValue e in
-        ap (λ ss. undoable (standing ss all)) (putIn-append rs before (e ∷ []))
+        ap (λ ss. undoable (both ss all)) (putIn-append rs before (e ∷ []))
         ∙ last-undone (withValue qs e v) (new-stands qs e g (fit .named))
-        ∙ ap (λ ss. passed (standing ss before)) (ap (withValue (withValue qs e v) e) (sym (fit .old)) ∙ put-back qs e g (fit .named) v)
+        ∙ ap (λ ss. passed (both ss before)) (ap (withValue (withValue qs e v) e) (sym (fit .old)) ∙ put-back qs e g (fit .named) v)
 
 -- what holds of no entry, and goes from some to one more behind them, holds of all
 pub from-end : (P : List Entry → Type 0) → P [] → ((before : List Entry) (e : Entry) → P before → P (before ++ e ∷ [])) → (es : List Entry) → P es

@@ -10,8 +10,8 @@ use Rattle.record.specs.Rules.{RecordOk}
 use Rattle.block.specs.Rules.{blockOf, IsBlock}
 use Rattle.sheet.specs.Sheets.{Entry}
 use Rattle.amending.specs.Places.{oldValue, newValue, found, withValue}
-use Rattle.demands.specs.Demand3.{putIn}
-use Rattle.demands.proofs.Values.{Named, Alike, steady-size, amended-good, amended-alike, alike-count, alike-named}
+use Rattle.demands.specs.Demand3.{putIn, Elsewhere}
+use Rattle.demands.proofs.Values.{Named, Alike, steady-size, amended-good, amended-alike, amended-found, alike-count, alike-named, other-found}
 
 -- an entry names a value of these records, its old value stands there, and its new value is a word
 pub record Fits (rs : List (List ℕ)) (e : Entry) : Type 0 where
@@ -80,3 +80,26 @@ module _ (rs : List (List ℕ)) (es : List Entry) (good : IsBlock (blockOf rs) r
       let n = alike-count rs (putIn rs es) a in
       let m = length-joined (putIn rs es) ∙ ap total (a ℕ length steady-size) ∙ sym (length-joined rs) in
       record { bytes = refl; each = putIn-good rs es (good .each) s; some = omega (arith, good .some, n); most = omega (arith, good .most, m) }
+
+-- ---- the value that stands
+
+-- amendments of other places leave what stands at this one
+others-leave : (rs : List (List ℕ)) (e : Entry) (es : List Entry) → All RecordOk rs → Named rs e → Stack rs es → All (Elsewhere e) es → found (putIn rs es) e ≡ found rs e
+others-leave rs e [] good p s o = refl
+others-leave rs e (f ∷ es) good p s o =
+    let ss = withValue rs f (newValue f) in
+    others-leave ss e es (put-good rs f good (s .0)) (alike-named rs ss (put-alike rs f good (s .0)) e p) (s .1) (o .1)
+    ∙ other-found rs e f (newValue f) p (s .0 .named) good (o .0)
+
+-- so the last amendment of a place stands there
+pub last-stands : (rs : List (List ℕ)) (before after : List Entry) (e : Entry) → All RecordOk rs → Stack rs (before ++ e ∷ after) → All (Elsewhere e) after
+    → found (putIn rs (before ++ e ∷ after)) e ≡ newValue e
+last-stands rs before after e good s o =
+    let qs = putIn rs before in
+    let t = stack-parts rs before (e ∷ after) s in
+    let g = putIn-good rs before good (t .0) in
+    let f = t .1 .0 in
+    let ss = withValue qs e (newValue e) in
+    ap (λ l. found l e) (putIn-append rs before (e ∷ after))
+    ∙ others-leave ss e after (put-good qs e g f) (alike-named qs ss (put-alike qs e g f) e (f .named)) (t .1 .1) o
+    ∙ amended-found qs e g (f .named) (newValue e)

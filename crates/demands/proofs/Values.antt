@@ -1,6 +1,8 @@
 -- One value of good records amended: what it changes, and what it leaves.
-use mathlib.Core.Path.{_≡_, sym, ap, _∙_}
-use mathlib.Core.Bool.{true}
+use mathlib.Core.Path.{_≡_, refl, sym, ap, _∙_}
+use mathlib.Core.Bool.{Bool, true, false}
+use borrow.Author.Tests.{eqb-true, eqb-false}
+use lib.Dec.{eqb}
 use mathlib.Core.List.{List, [], map}
 use Prim.Native.Nat.{ℕ, _-_, _≤_, _<_}
 use native.Mathlib.Omega.{arith}
@@ -15,6 +17,7 @@ use Rattle.lines.specs.Columns.{columnsBefore}
 use Rattle.lines.proofs.Sizes.{is-data}
 use Rattle.sheet.specs.Sheets.{Entry}
 use Rattle.amending.specs.Places.{recordNumber, wordNumber, recordIn, found, withValue}
+use Rattle.demands.specs.Demand3.{Elsewhere}
 
 -- ---- a value's word
 
@@ -139,3 +142,27 @@ module _ (rs ss : List (List ℕ)) (alike : Alike rs ss) where
 
   pub alike-named : (e : Entry) → Named rs e → Named ss e
   alike-named e p = record { least = p .least; most = omega (arith, p .most, alike-count); value = alike-value (recordNumber e) (wordNumber e) ∙ p .value }
+
+-- ---- at another place
+
+-- what stands at another place stays
+pub other-found : (rs : List (List ℕ)) (e f : Entry) (v : ℕ) → Named rs e → Named rs f → All RecordOk rs → Elsewhere e f → found (withValue rs f v) e ≡ found rs e
+unfolding withValue
+other-found rs e f v p q good other = by (eqb (recordNumber f) (recordNumber e)) refl
+  where
+    low : 16 ≤ wordsBefore e
+    low = named-word rs e good p .low
+
+    low-f : 16 ≤ wordsBefore f
+    low-f = named-word rs f good q .low
+
+    by : (t : Bool) → eqb (recordNumber f) (recordNumber e) ≡ t → found (set rs (recordsBefore f) (set (its rs f) (wordsBefore f) v)) e ≡ found rs e
+    by true z =
+        let n = eqb-true (recordNumber f) (recordNumber e) z in
+        let w : wordsBefore e ≡ wordsBefore f → ⊥ = λ m. other n (omega (arith, low, low-f)) in
+        rw n
+        (ap (λ r. getD r (wordsBefore e) 0) (getD-set-same rs (recordsBefore e) (set (its rs e) (wordsBefore f) v) [] (inside rs e good p))
+        ∙ getD-set-other (its rs e) (wordsBefore f) (wordsBefore e) v 0 w)
+    by false z =
+        let n = eqb-false (recordNumber f) (recordNumber e) z in
+        ap (λ r. getD r (wordsBefore e) 0) (getD-set-other rs (recordsBefore f) (recordsBefore e) _ [] (λ m. n (omega (arith, p .least, q .least))))

@@ -22,8 +22,7 @@ use Rattle.sheet.specs.Cases.{openedOf}
 use Rattle.sheet.specs.Sheets.{Entry, version1, opened, started}
 use Rattle.amending.specs.declared.Amended.{Amended}
 use Rattle.amending.specs.Cases.{amendedOf}
-use Rattle.amending.specs.Amending as outcome
-use Rattle.amending.specs.Amending.{buffers, amend, undo}
+use Rattle.amending.specs.Amending.{Outcome, buffers, amend, undo}
 use Rattle.cedar.specs.Calls.{judgeAnswer, prefixAnswer, returned, converted, returnedBoth, amendedBoth}
 use Rattle.prefix.specs.declared.Letters.{Letters}
 use Rattle.prefix.specs.Table.{prefixOf}
@@ -90,7 +89,7 @@ StartAgrees =
     (r ≡ s) × (t ≡ u)
 
 -- two outcomes of a call on a block and its sheet: the answer's case and every byte of both buffers
-abbrev pub BothAgree : outcome.Amended → Type 0
+abbrev pub BothAgree : Outcome → Type 0
 BothAgree o =
     (r s : Amended) (b c x y : List ℕ) → buffers (answered (amendedOf r)) b x ≡ o → buffers (answered (amendedOf s)) c y ≡ o →
     (r ≡ s) × (b ≡ c) × (x ≡ y)
@@ -110,7 +109,7 @@ CedarStartAgrees =
     (r ≡ s) × (t ≡ u)
 
 -- two outcomes of such a call from C
-abbrev pub CedarBothAgree : outcome.Amended → Type 0
+abbrev pub CedarBothAgree : Outcome → Type 0
 CedarBothAgree o =
     (r s : ℕ) (b c x y : List ℕ) → returnedBoth r b x ≡ amendedBoth o → returnedBoth s c y ≡ amendedBoth o →
     (r ≡ s) × (b ≡ c) × (x ≡ y)

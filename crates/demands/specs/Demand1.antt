@@ -9,7 +9,7 @@ use Rattle.words.specs.Words.{Below}
 use Rattle.lines.specs.Text.{toLines}
 use Rattle.text.specs.Block.{toBlock}
 use Rattle.sheet.specs.Sheets.{Entry, version1, started}
-use Rattle.amending.specs.Amending.{Amended, amend, undo}
+use Rattle.amending.specs.Amending.{Outcome, amend, undo}
 use Rattle.cedar.specs.Calls.{judgeAnswer, prefixAnswer}
 
 -- the four numbers that a C caller takes out of the one it was given
@@ -46,16 +46,22 @@ StartAnswers =
     ((started version1 sheet .answer .n ≡ 0) ⊎ (started version1 sheet .answer .n ≡ 40)) × Kept (started version1 sheet .answer)
     × ((started version1 sheet .answer .n ≡ 0 → ⊥) → started version1 sheet .out ≡ sheet)
 
--- the block's numbers, 0 to 9, or rows 40 to 46; "Every refusal leaves every buffer untouched"
-abbrev pub BothAnswer : List ℕ → List ℕ → Amended → Type 0
-BothAnswer block sheet o =
-    ((o .answer .n ≤ 9) ⊎ ((40 ≤ o .answer .n) × (o .answer .n ≤ 46))) × Kept (o .answer)
+-- the block's numbers, 0 to 9, or rows of the call's own; "Every refusal leaves every buffer untouched"
+abbrev pub BothAnswer : (ℕ → Type 0) → List ℕ → List ℕ → Outcome → Type 0
+BothAnswer Own block sheet o =
+    ((o .answer .n ≤ 9) ⊎ Own (o .answer .n)) × Kept (o .answer)
     × ((o .answer .n ≡ 0 → ⊥) → (o .block ≡ block) × (o .sheet ≡ sheet))
 
 -- "Amend: block, 40, 44, 41, 42, 43"
+abbrev pub AmendRow : ℕ → Type 0
+AmendRow n = (40 ≤ n) × (n ≤ 44)
+
 abbrev pub AmendAnswers : Type 0
-AmendAnswers = (e : Entry) (block sheet : List ℕ) → Below 256 block → Below 256 sheet → BothAnswer block sheet (amend version1 e block sheet)
+AmendAnswers = (e : Entry) (block sheet : List ℕ) → Below 256 block → Below 256 sheet → BothAnswer AmendRow block sheet (amend version1 e block sheet)
 
 -- "Undo: block, 40, 45, 46"
+abbrev pub UndoRow : ℕ → Type 0
+UndoRow n = (n ≡ 40) ⊎ ((45 ≤ n) × (n ≤ 46))
+
 abbrev pub UndoAnswers : Type 0
-UndoAnswers = (block sheet : List ℕ) → Below 256 block → Below 256 sheet → BothAnswer block sheet (undo version1 block sheet)
+UndoAnswers = (block sheet : List ℕ) → Below 256 block → Below 256 sheet → BothAnswer UndoRow block sheet (undo version1 block sheet)

@@ -22,7 +22,7 @@ use Rattle.lines.specs.Columns.{columnsBefore}
 use Rattle.sheet.specs.Sheets.{Layout, Entry, sheetOf}
 use Rattle.sheet.specs.Rules.{IsEntry}
 use Rattle.amending.specs.Places.{recordNumber, wordNumber, oldValue, newValue, recordIn, found, withValue}
-use Rattle.amending.specs.Amending.{Amended, Standing, standing, amendable, undoable, amend, undo}
+use Rattle.amending.specs.Amending.{Outcome, Both, both, amendable, undoable, amend, undo}
 
 -- ---- the calls
 
@@ -39,7 +39,8 @@ pub record Done : Type 0 where
   pub sheet : List ℕ
   pub out : List ℕ
 
-abbrev pub ofBoth : Amended → Done
+-- amend and undo have no output
+abbrev pub ofBoth : Outcome → Done
 ofBoth a = record { answer = a .answer; block = a .block; sheet = a .sheet; out = [] }
 
 -- what the call's definition says
@@ -86,17 +87,18 @@ pub record Modelled : Type 0 where
   pub out : List ℕ
 
 -- an amendment or its undoing: the entries that then stand, or the stack as it was
-abbrev pub stacked : List Entry → Verdict Standing → Modelled
+abbrev pub stacked : List Entry → Verdict Both → Modelled
 stacked es (passed t) = record { answer = answer 0 (length (t .entries)) 0 0; stack = t .entries; out = [] }
 stacked es (refused r) = record { answer = r; stack = es; out = [] }
 
 -- what the model does
 abbrev pub modelled : Layout → List (List ℕ) → List Entry → Call → Modelled
-modelled y rs es (amends e) = stacked es (amendable y e (standing (putIn rs es) es))
-modelled y rs es undoes = stacked es (undoable (standing (putIn rs es) es))
+modelled y rs es (amends e) = stacked es (amendable y e (both (putIn rs es) es))
+modelled y rs es undoes = stacked es (undoable (both (putIn rs es) es))
 modelled y rs es (prints text) =
     let w = written text (passed (textOf (putIn rs es))) in record { answer = w .answer; stack = es; out = w .out }
 
+-- and does, call by call
 abbrev pub modelledAll : Layout → List (List ℕ) → List Entry → List Call → List Modelled
 modelledAll y rs es [] = []
 modelledAll y rs es (c ∷ cs) = let m = modelled y rs es c in m ∷ modelledAll y rs (m .stack) cs
@@ -115,7 +117,7 @@ pub record Accepts (y : Layout) (rs : List (List ℕ)) (es : List Entry) (e : En
 
 -- ---- the demand, from an accepted block of so many records and an empty sheet
 
--- the rule of acceptance: amend succeeds exactly when the amendment is one, and then it stands last; undo exactly when one stands
+-- the rule of acceptance: amend succeeds exactly when `Accepts` holds, and its entry then stands last; undo exactly when an entry stands, and it takes the last
 abbrev pub ModelRule : Type 0
 ModelRule =
     (y : Layout) (b : List ℕ) (k : ℕ) (cs : List Call) → Below 256 b → judged b ≡ passed k → All (Takes y) cs →
@@ -129,17 +131,34 @@ ModelRule =
 abbrev pub shown : Layout → List (List ℕ) → Modelled → Done
 shown y rs m = record { answer = m .answer; block = blockOf (putIn rs (m .stack)); sheet = sheetOf y (m .stack); out = m .out }
 
--- "the block is the first block with the standing amendments put in, oldest first, its checksum fresh";
--- every answer, sheet and output is the model's too, and the block is accepted with as many records
+-- "the block is the first block with the standing amendments put in, oldest first, its checksum fresh"; at the end of all calls,
+-- and after each one, where every answer, sheet and output is the model's too and the block is accepted with as many records
 abbrev pub StandingPutIn : Type 0
 StandingPutIn =
     (y : Layout) (b : List ℕ) (k : ℕ) (cs : List Call) → Below 256 b → judged b ≡ passed k → All (Takes y) cs →
-    (doneAll y b (sheetOf y []) cs ≡ map (shown y (recordsOf b)) (modelledAll y (recordsOf b) [] cs))
+    let rs = recordsOf b in let es = stackAfter y rs [] cs in
+    (leftBy y (fresh y b) cs ≡ record { block = blockOf (putIn rs es); sheet = sheetOf y es })
+    × (doneAll y b (sheetOf y []) cs ≡ map (shown y rs) (modelledAll y rs [] cs))
     × All (λ d. judged (d .block) ≡ passed k) (doneAll y b (sheetOf y []) cs)
 
--- the first of the six columns of the number that an entry names: the texts of the records before, and the columns before it
-abbrev pub columnOf : List (List ℕ) → Entry → ℕ
-columnOf rs e = length (textOf (take (recordNumber e - 1) rs)) + columnsBefore (recordIn rs (recordNumber e)) (wordNumber e - 1)
+-- an entry that names another place
+abbrev pub Elsewhere : Entry → Entry → Type 0
+Elsewhere e f = recordNumber f ≡ recordNumber e → wordNumber f ≡ wordNumber e → ⊥
+
+-- the value that stands at a place is the new one of the last entry that names it
+abbrev pub LastStands : Type 0
+LastStands =
+    (y : Layout) (b : List ℕ) (k : ℕ) (cs : List Call) → Below 256 b → judged b ≡ passed k → All (Takes y) cs →
+    let rs = recordsOf b in let es = stackAfter y rs [] cs in
+    (before after : List Entry) (e : Entry) → es ≡ before ++ e ∷ after → All (Elsewhere e) after → found (putIn rs es) e ≡ newValue e
+
+-- how many bytes of the text stand before the six columns of the number that an entry names: the records' before, and its own record's
+abbrev pub bytesBefore : List (List ℕ) → Entry → ℕ
+bytesBefore rs e = length (textOf (take (recordNumber e - 1) rs)) + columnsBefore (recordIn rs (recordNumber e)) (wordNumber e - 1)
+
+-- a byte that is none of the six behind so many
+abbrev pub Outside : ℕ → ℕ → Type 0
+Outside i before = (i < before) ⊎ (before + 6 ≤ i)
 
 -- "its lines differ only in the amended six columns", which show the value that stands
 abbrev pub LinesDiffer : Type 0
@@ -148,8 +167,8 @@ LinesDiffer =
     let rs = recordsOf b in let es = stackAfter y rs [] cs in
     let first = textOf rs in let text = textOf (recordsOf (leftBy y (fresh y b) cs .block)) in
     (length text ≡ length first)
-    × ((i : ℕ) → All (λ e. (i < columnOf rs e) ⊎ (columnOf rs e + 6 ≤ i)) es → getD text i 0 ≡ getD first i 0)
-    × All (λ e. slice (columnOf rs e) (columnOf rs e + 6) text ≡ fieldOf (found (putIn rs es) e)) es
+    × ((i : ℕ) → All (λ e. Outside i (bytesBefore rs e)) es → getD text i 0 ≡ getD first i 0)
+    × All (λ e. slice (bytesBefore rs e) (bytesBefore rs e + 6) text ≡ fieldOf (found (putIn rs es) e)) es
 
 -- "undoing all gives back both buffers exactly", and no undo on the way is refused
 abbrev pub UndoneGivesBack : Type 0

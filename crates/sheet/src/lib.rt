@@ -18,10 +18,13 @@ ghost use Rattle.sheet.specs.Cases.{entryOf, openedOf};
 
 pub const VERSION: u16 = 1;
 
+// So many bytes.
+const SIZE: usize = 520;
+
 // So many entries at most.
 pub const LIMIT: u16 = 64;
 
-// The four numbers of an entry.
+// The numbers of an entry: record number, word number in the record, old value, new value.
 pub struct Amendment {
     pub number: u16,
     pub word: u16,
@@ -59,17 +62,17 @@ fn wrong_mark(sheet: &[u8]) -> bool
     sheet[2] != b'D'
 }
 
-// The words of a sheet before entry `i`, counted from 0.
+// The words of a sheet before entry `i`, counted from 0: its first 8 bytes are 4 words.
 fn before_entry(i: u16) -> Words
-    ensures { λ r. ⌜ r .0 ≡ 4 + i * 4 ⌝ }
+    ensures { λ r. ⌜ r .0 ≡ 4 + i * version1 .size ⌝ }
 {
     Words(4 + (i as usize) * 4)
 }
 
 // Something stands past the first `count` entries.
 fn more_stands(sheet: &[u8], count: u16) -> bool
-    requires { ⌜ (count ≤ 64) × (length (now sheet) ≡ sheetBytes version1) ⌝ }
-    ensures { λ r. ⌜ r ≡ not (zeros (drop (count * 4) (numbersIn (now (sheet .entry))))) ⌝ }
+    requires { ⌜ (count ≤ version1 .limit) × (length (now sheet) ≡ sheetBytes version1) ⌝ }
+    ensures { λ r. ⌜ r ≡ not (zeros (drop (count * version1 .size) (numbersIn (now (sheet .entry))))) ⌝ }
 {
     let rest = words::part(sheet, before_entry(count), before_entry(LIMIT));
     let clear = record::first_outside(rest, 0, 0).0;
@@ -81,7 +84,7 @@ fn more_stands(sheet: &[u8], count: u16) -> bool
 fn is_broken(sheet: &[u8]) -> bool
     ensures { λ r. ⌜ r ≡ broken version1 (now (sheet .entry)) ⌝ }
 {
-    if sheet.len() != 520 {
+    if sheet.len() != SIZE {
         return true;
     }
     if wrong_mark(sheet) {
@@ -147,14 +150,14 @@ fn clear(sheet: &mut [u8])
 pub fn start(sheet: &mut [u8]) -> Opened
     ensures { λ r. ⌜ leaves (answered (openedOf r)) (now (sheet .exit)) ≡ started version1 (now (sheet .entry)) ⌝ }
 {
-    if sheet.len() != 520 {
+    if sheet.len() != SIZE {
         return Opened::Broken;
     }
     clear(sheet);
     sheet[0] = b'A';
     sheet[1] = b'M';
     sheet[2] = b'D';
-    sheet[4] = 1;
+    sheet[4] = VERSION as u8;
     Opened::Standing(0)
 }
 
@@ -183,8 +186,8 @@ fn put_count(sheet: &mut [u8], count: u16)
 
 // Puts four numbers in place of entry `i`.
 fn put_numbers(sheet: &mut [u8], i: u16, e: Amendment)
-    requires { ⌜ (i < 64) × (length (now sheet) ≡ sheetBytes version1) ⌝ }
-    ensures { λ _. ⌜ now (sheet .exit) ≡ sets (now (sheet .entry)) (8 + bytesOfWords (i * 4)) (bytesOf (entryOf e)) ⌝ }
+    requires { ⌜ (i < version1 .limit) × (length (now sheet) ≡ sheetBytes version1) ⌝ }
+    ensures { λ _. ⌜ now (sheet .exit) ≡ sets (now (sheet .entry)) (8 + bytesOfWords (i * version1 .size)) (bytesOf (entryOf e)) ⌝ }
 {
     let at = before_entry(i).0;
     words::put_word(sheet, Words(at), e.number);
@@ -195,7 +198,7 @@ fn put_numbers(sheet: &mut [u8], i: u16, e: Amendment)
 
 // Adds an entry after the `count` that stand.
 pub fn add_entry(sheet: &mut [u8], count: u16, e: Amendment)
-    requires { ⌜ KeepsLayout version1 (now sheet) × (count ≡ length (entriesOf version1 (now sheet))) × (count < 64) ⌝ }
+    requires { ⌜ KeepsLayout version1 (now sheet) × (count ≡ length (entriesOf version1 (now sheet))) × (count < version1 .limit) ⌝ }
     ensures { λ _. ⌜ now (sheet .exit) ≡ sheetOf version1 (entriesOf version1 (now (sheet .entry)) ++ entryOf e ∷ []) ⌝ }
 {
     put_numbers(sheet, count, e);

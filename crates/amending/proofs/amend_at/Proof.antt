@@ -1,3 +1,4 @@
+use Rattle.sheet.specs.Sheets.{version1}
 use Rattle.amending.proofs.Outcome.{spot-within, amend-other, amend-done}
 use denote.Ref.{now}
 use native.Mathlib.Omega.{arith}
@@ -14,7 +15,7 @@ bytes : (c : tie.After-slice-known2) → Below 256 (now (c .before .before .args
 bytes c = all-below 256 (now (c .before .before .args .block)) (λ i. omega (arith, c .before .slice-known .given i))
 
 within : (c : tie.After-slice-known2) → c .before .before .args .at .0 + 1 < length (wordsOf (now (c .before .before .args .block)))
-within c = let a = c .before .before .args in let p = c .before .before .pre in spot-within (now (a .block)) (now (a .sheet)) (bytes c) (p .0) (entryOf (a .e)) (a .at .0) (p .4)
+within c = let a = c .before .before .args in let p = c .before .before .pre in spot-within version1 (now (a .block)) (now (a .sheet)) (bytes c) (p .0) (entryOf (a .e)) (a .at .0) (p .4)
 
 word-at-requires : tie.Need-word-at-requires
 word-at-requires c κs = omega (arith, within (c .before))
@@ -23,7 +24,7 @@ same-length : tie.Need-same-length
 same-length c = search needs
 
 returns : tie.Need-returns
-returns c = let a = c .before .before .before .before .before .args in let p = c .before .before .before .before .before .pre in amend-other (now (a .block)) (now (a .sheet)) (bytes (c .before .before .before)) (p .0) (entryOf (a .e)) (a .at .0) (p .4) (c .before .word-at .result) (c .before .word-at .ensures) (c .if1 .taken) (omega (arith, p .2, p .3))
+returns c = let a = c .before .before .before .before .before .args in let p = c .before .before .before .before .before .pre in amend-other version1 (now (a .block)) (now (a .sheet)) (bytes (c .before .before .before)) (p .0) (entryOf (a .e)) (a .at .0) (p .4) (c .before .word-at .result) (c .before .word-at .ensures) (c .if1 .taken) (omega (arith, p .2, p .3))
 
 put-value-requires : tie.Need-put-value-requires
 put-value-requires c κs = within (c .before .before .before .before)
@@ -41,7 +42,7 @@ same-length-3 : tie.Need-same-length-3
 same-length-3 c = search needs
 
 returns-2 : tie.Need-returns-2
-returns-2 c = let a = c .before .before .before .before .before .before .before .before .before .before .before .before .before .args in let p = c .before .before .before .before .before .before .before .before .before .before .before .before .before .pre in amend-done (now (a .block)) (now (a .sheet)) (bytes (c .before .before .before .before .before .before .before .before .before .before .before)) (p .0) (entryOf (a .e)) (a .at .0) (p .4) (c .before .before .before .before .before .before .before .before .before .word-at .result) (c .before .before .before .before .before .before .before .before .before .word-at .ensures) (a .count) (c .before .before .before .before .before .before .before .before .if1 .left) (p .2) (p .3) (c .before .before .before .before .before .before .put-value .ensures) (c .before .before .add-entry .ensures)
+returns-2 c = let a = c .before .before .before .before .before .before .before .before .before .before .before .before .before .args in let p = c .before .before .before .before .before .before .before .before .before .before .before .before .before .pre in amend-done version1 (now (a .block)) (now (a .sheet)) (bytes (c .before .before .before .before .before .before .before .before .before .before .before)) (p .0) (entryOf (a .e)) (a .at .0) (p .4) (c .before .before .before .before .before .before .before .before .before .word-at .result) (c .before .before .before .before .before .before .before .before .before .word-at .ensures) (a .count) (c .before .before .before .before .before .before .before .before .if1 .left) (p .2) (p .3) (c .before .before .before .before .before .before .put-value .ensures) (c .before .before .add-entry .ensures)
 
 pub amend-at-spec : {M : Type 1} → statement M
 amend-at-spec =

@@ -13,7 +13,7 @@ use Rattle.amending.proofs.amend_next.Statement.{statement}
 use Rattle.amending.proofs.amend_next.Tie as tie
 
 returns : tie.Need-returns
-returns c = let a = c .before .before .before .args in refusal-leaves (now (a .block)) (now (a .sheet)) (answer 44 0 0 0) _ (amend-full version1 (entryOf (a .e)) (recordsOf (now (a .block))) (entriesOf version1 (now (a .sheet))) (omega (arith, c .before .before .before .pre .2)))
+returns c = let a = c .before .before .before .args in refusal-leaves version1 (now (a .block)) (now (a .sheet)) (answer 44 0 0 0) _ (amend-full version1 (entryOf (a .e)) (recordsOf (now (a .block))) (entriesOf version1 (now (a .sheet))) (omega (arith, c .before .before .before .pre .2)))
 
 find-value-requires : tie.Need-find-value-requires
 find-value-requires c κs = search needs
@@ -34,13 +34,13 @@ same-length : tie.Need-same-length
 same-length c = search needs
 
 returns-2 : tie.Need-returns-2
-returns-2 c = let a = c .before .before .before .before .before .before .before .args in refusal-leaves (now (a .block)) (now (a .sheet)) (answer 41 0 0 0) _ (amend-no-place version1 (entryOf (a .e)) (recordsOf (now (a .block))) (entriesOf version1 (now (a .sheet))) (omega (arith, c .before .before .before .before .before .before .before .pre .2)) (answer 41 0 0 0) (sym (c .before .before .find-value .ensures) ∙ ap spotOf (c .enum-told .given .1)))
+returns-2 c = let a = c .before .before .before .before .before .before .before .args in refusal-leaves version1 (now (a .block)) (now (a .sheet)) (answer 41 0 0 0) _ (amend-no-place version1 (entryOf (a .e)) (recordsOf (now (a .block))) (entriesOf version1 (now (a .sheet))) (omega (arith, c .before .before .before .before .before .before .before .pre .2)) (answer 41 0 0 0) (sym (c .before .before .find-value .ensures) ∙ ap spotOf (c .enum-told .given .1)))
 
 same-length-2 : tie.Need-same-length-2
 same-length-2 c = search needs
 
 returns-3 : tie.Need-returns-3
-returns-3 c = let a = c .before .before .before .before .before .before .before .args in refusal-leaves (now (a .block)) (now (a .sheet)) (answer 42 0 0 0) _ (amend-no-place version1 (entryOf (a .e)) (recordsOf (now (a .block))) (entriesOf version1 (now (a .sheet))) (omega (arith, c .before .before .before .before .before .before .before .pre .2)) (answer 42 0 0 0) (sym (c .before .before .find-value .ensures) ∙ ap spotOf (c .enum-told2 .given .1)))
+returns-3 c = let a = c .before .before .before .before .before .before .before .args in refusal-leaves version1 (now (a .block)) (now (a .sheet)) (answer 42 0 0 0) _ (amend-no-place version1 (entryOf (a .e)) (recordsOf (now (a .block))) (entriesOf version1 (now (a .sheet))) (omega (arith, c .before .before .before .before .before .before .before .pre .2)) (answer 42 0 0 0) (sym (c .before .before .find-value .ensures) ∙ ap spotOf (c .enum-told2 .given .1)))
 
 same-length-3 : tie.Need-same-length-3
 same-length-3 c = search needs

@@ -1,3 +1,4 @@
+use Rattle.sheet.specs.Sheets.{version1}
 use denote.Ref.{now}
 use native.Mathlib.Omega.{arith}
 use mathlib.Core.Path.{sym, ap, _∙_}
@@ -9,9 +10,9 @@ use borrow.Author.Needs.{needs}
 use Rattle.amending.proofs.undo.Statement.{statement}
 use Rattle.amending.proofs.undo.Tie as tie
 
-looked : (c : tie.After-known-told2) → let a = c .before .before .before .before .before .before .before .before .args in Looked (now (a .block)) (now (a .sheet)) (c .before .count .given .0 .0)
+looked : (c : tie.After-known-told2) → let a = c .before .before .before .before .before .before .before .before .args in Looked version1 (now (a .block)) (now (a .sheet)) (c .before .count .given .0 .0)
 looked c = let a = c .before .before .before .before .before .before .before .before .args in
-    look-passed (now (a .block)) (now (a .sheet)) (c .before .count .given .0 .0) (all-below 256 (now (a .sheet)) (λ i. omega (arith, c .before .before .before .before .before .before .slice-known2 .given i)))
+    look-passed version1 (now (a .block)) (now (a .sheet)) (c .before .count .given .0 .0) (all-below 256 (now (a .sheet)) (λ i. omega (arith, c .before .before .before .before .before .before .slice-known2 .given i)))
     (sym (c .before .before .before .look .ensures) ∙ ap amendedOf (c .before .count .given .1))
 
 look-requires : tie.Need-look-requires
@@ -33,7 +34,7 @@ same-length-2 : tie.Need-same-length-2
 same-length-2 c = search needs
 
 returns : tie.Need-returns
-returns c = let a = c .before .before .before .before .before .before .before .before .args in look-refused (undoable) (now (a .block)) (now (a .sheet)) _ (sym (c .before .before .before .look .ensures) ∙ ap amendedOf (c .before .r .given .1))
+returns c = let a = c .before .before .before .before .before .before .before .before .args in look-refused version1 (undoable) (now (a .block)) (now (a .sheet)) _ (sym (c .before .before .before .look .ensures) ∙ ap amendedOf (c .before .r .given .1))
 
 same-length-3 : tie.Need-same-length-3
 same-length-3 c = search needs

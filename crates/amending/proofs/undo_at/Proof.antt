@@ -18,7 +18,7 @@ bytes : (c : tie.After-slice-known2) → Below 256 (now (c .before .before .args
 bytes c = all-below 256 (now (c .before .before .args .block)) (λ i. omega (arith, c .before .slice-known .given i))
 
 within : (c : tie.After-slice-known2) → c .before .before .args .at .0 + 1 < length (wordsOf (now (c .before .before .args .block)))
-within c = let a = c .before .before .args in let p = c .before .before .pre in spot-within (now (a .block)) (now (a .sheet)) (bytes c) (p .0) (entryOf (a .e)) (a .at .0) (p .4)
+within c = let a = c .before .before .args in let p = c .before .before .pre in spot-within version1 (now (a .block)) (now (a .sheet)) (bytes c) (p .0) (entryOf (a .e)) (a .at .0) (p .4)
 
 last : (c : tie.Start) → lastOf (entriesOf version1 (now (c .args .sheet))) ≡ entryOf (c .args .e)
 last c = let es = entriesOf version1 (now (c .args .sheet)) in ap (λ i. getD es i []) (omega (arith, c .pre .2)) ∙ sym (c .pre .3)
@@ -30,7 +30,7 @@ same-length : tie.Need-same-length
 same-length c = search needs
 
 returns : tie.Need-returns
-returns c = let a = c .before .before .before .before .before .args in let p = c .before .before .before .before .before .pre in undo-other (now (a .block)) (now (a .sheet)) (bytes (c .before .before .before)) (p .0) (entryOf (a .e)) (a .at .0) (p .4) (c .before .word-at .result) (c .before .word-at .ensures) (last (c .before .before .before .before .before)) (a .left) (p .2) (c .if1 .taken)
+returns c = let a = c .before .before .before .before .before .args in let p = c .before .before .before .before .before .pre in undo-other version1 (now (a .block)) (now (a .sheet)) (bytes (c .before .before .before)) (p .0) (entryOf (a .e)) (a .at .0) (p .4) (c .before .word-at .result) (c .before .word-at .ensures) (last (c .before .before .before .before .before)) (a .left) (p .2) (c .if1 .taken)
 
 put-value-requires : tie.Need-put-value-requires
 put-value-requires c κs = within (c .before .before .before .before)
@@ -45,7 +45,7 @@ same-length-3 : tie.Need-same-length-3
 same-length-3 c = search needs
 
 returns-2 : tie.Need-returns-2
-returns-2 c = let a = c .before .before .before .before .before .before .before .before .before .before .before .before .before .args in let p = c .before .before .before .before .before .before .before .before .before .before .before .before .before .pre in undo-done (now (a .block)) (now (a .sheet)) (bytes (c .before .before .before .before .before .before .before .before .before .before .before)) (p .0) (entryOf (a .e)) (a .at .0) (p .4) (c .before .before .before .before .before .before .before .before .before .word-at .result) (c .before .before .before .before .before .before .before .before .before .word-at .ensures) (last (c .before .before .before .before .before .before .before .before .before .before .before .before .before)) (a .left) (p .2) (c .before .before .before .before .before .before .before .before .if1 .left) (c .before .before .before .before .before .before .put-value .ensures) (c .before .before .clear-last .ensures)
+returns-2 c = let a = c .before .before .before .before .before .before .before .before .before .before .before .before .before .args in let p = c .before .before .before .before .before .before .before .before .before .before .before .before .before .pre in undo-done version1 (now (a .block)) (now (a .sheet)) (bytes (c .before .before .before .before .before .before .before .before .before .before .before)) (p .0) (entryOf (a .e)) (a .at .0) (p .4) (c .before .before .before .before .before .before .before .before .before .word-at .result) (c .before .before .before .before .before .before .before .before .before .word-at .ensures) (last (c .before .before .before .before .before .before .before .before .before .before .before .before .before)) (a .left) (p .2) (c .before .before .before .before .before .before .before .before .if1 .left) (c .before .before .before .before .before .before .put-value .ensures) (c .before .before .clear-last .ensures)
 
 pub undo-at-spec : {M : Type 1} → statement M
 undo-at-spec =

@@ -26,7 +26,7 @@ no-place : (c : tie.After-find-value) (r : Answer) → spotOf (c .find-value .re
 no-place c r q = rw (sym (its-last (c .before .before))) (sym (c .find-value .ensures) ∙ q)
 
 returns : tie.Need-returns
-returns c = let a = c .before .before .before .args in refusal-leaves (now (a .block)) (now (a .sheet)) (answer 45 0 0 0) _ (undo-empty (recordsOf (now (a .block))) (entriesOf version1 (now (a .sheet))) (omega (arith, c .before .before .before .pre .2)))
+returns c = let a = c .before .before .before .args in refusal-leaves version1 (now (a .block)) (now (a .sheet)) (answer 45 0 0 0) _ (undo-empty (recordsOf (now (a .block))) (entriesOf version1 (now (a .sheet))) (omega (arith, c .before .before .before .pre .2)))
 
 sub-left : tie.Need-sub-left
 sub-left c = search needs
@@ -56,7 +56,7 @@ same-length-2 : tie.Need-same-length-2
 same-length-2 c = search needs
 
 returns-2 : tie.Need-returns-2
-returns-2 c = let a = c .before .before .before .before .before .before .before .before .before .args in refusal-leaves (now (a .block)) (now (a .sheet)) (answer 46 0 0 0) _ (undo-no-place (recordsOf (now (a .block))) (entriesOf version1 (now (a .sheet))) (omega (arith, c .before .before .before .before .before .before .before .before .before .pre .2)) (answer 41 0 0 0) (no-place (c .before .before) (answer 41 0 0 0) (ap spotOf (c .enum-told .given .1))))
+returns-2 c = let a = c .before .before .before .before .before .before .before .before .before .args in refusal-leaves version1 (now (a .block)) (now (a .sheet)) (answer 46 0 0 0) _ (undo-no-place (recordsOf (now (a .block))) (entriesOf version1 (now (a .sheet))) (omega (arith, c .before .before .before .before .before .before .before .before .before .pre .2)) (answer 41 0 0 0) (no-place (c .before .before) (answer 41 0 0 0) (ap spotOf (c .enum-told .given .1))))
 
 same-length-3 : tie.Need-same-length-3
 same-length-3 c = search needs
@@ -65,7 +65,7 @@ same-length-4 : tie.Need-same-length-4
 same-length-4 c = search needs
 
 returns-3 : tie.Need-returns-3
-returns-3 c = let a = c .before .before .before .before .before .before .before .before .before .args in refusal-leaves (now (a .block)) (now (a .sheet)) (answer 46 0 0 0) _ (undo-no-place (recordsOf (now (a .block))) (entriesOf version1 (now (a .sheet))) (omega (arith, c .before .before .before .before .before .before .before .before .before .pre .2)) (answer 42 0 0 0) (no-place (c .before .before) (answer 42 0 0 0) (ap spotOf (c .enum-told2 .given .1))))
+returns-3 c = let a = c .before .before .before .before .before .before .before .before .before .args in refusal-leaves version1 (now (a .block)) (now (a .sheet)) (answer 46 0 0 0) _ (undo-no-place (recordsOf (now (a .block))) (entriesOf version1 (now (a .sheet))) (omega (arith, c .before .before .before .before .before .before .before .before .before .pre .2)) (answer 42 0 0 0) (no-place (c .before .before) (answer 42 0 0 0) (ap spotOf (c .enum-told2 .given .1))))
 
 same-length-5 : tie.Need-same-length-5
 same-length-5 c = search needs

@@ -27,6 +27,9 @@ slice-write-sheet-2 c = search needs
 slice-write-sheet-3 : tie.Need-slice-write-sheet-3
 slice-write-sheet-3 c = simp length-set (omega (arith, c .before .before .clear .kept .0))
 
+cast-sheet : tie.Need-cast-sheet
+cast-sheet c = search needs
+
 slice-write-sheet-4 : tie.Need-slice-write-sheet-4
 slice-write-sheet-4 c = simp length-set (omega (arith, c .before .before .clear .kept .0))
 
@@ -46,6 +49,7 @@ start-spec =
     slice-write-sheet
     slice-write-sheet-2
     slice-write-sheet-3
+    cast-sheet
     slice-write-sheet-4
     same-length
     returns-2)
