@@ -6,6 +6,7 @@
  *   bench WHOSE TASK CALLS      only makes so many calls, to have their instructions counted from outside
  */
 #define _DEFAULT_SOURCE
+#include <inttypes.h>
 #include <stdio.h>
 #include <stdlib.h>
 #include <string.h>
@@ -217,7 +218,7 @@ static uint64_t amend(const struct calls *calls, uint16_t old_value)
     return calls->amend(block.bytes, block.length, sheet, sizeof sheet, last_record, last_word, old_value, 905);
 }
 
-/* Both, counted as one call: the next one finds what this one found. */
+/* Both, counted as one call: the next one finds what this one found. n is 0 only if both succeed. */
 static uint64_t amend_and_undo(const struct calls *calls)
 {
     return amend(calls, last_value) + calls->undo(block.bytes, block.length, sheet, sizeof sheet);
@@ -233,32 +234,33 @@ static const struct task {
     const char *name;
     void (*build)(void);
     uint64_t (*call)(const struct calls *);
+    uint32_t n; /* of the answer */
 } tasks[] = {
-    {"judge-data", build_data, judge},
-    {"judge-catalogue", build_catalogue, judge},
-    {"judge-records", build_records, judge},
-    {"judge-bad-checksum", build_bad_checksum, judge},
-    {"judge-bad-card", build_bad_card, judge},
-    {"lines-data", build_values, to_lines},
-    {"lines-data-zeros", build_data, to_lines},
-    {"lines-catalogue", build_catalogue, to_lines},
-    {"lines-records", build_records, to_lines},
-    {"lines-k", build_k, to_lines},
-    {"lines-no-room", build_data, to_no_lines},
-    {"block-data", build_values, to_block},
-    {"block-data-zeros", build_data, to_block},
-    {"block-catalogue", build_catalogue, to_block},
-    {"block-records", build_records, to_block},
-    {"block-k", build_k, to_block},
-    {"block-bad-last-line", build_values, to_bad_block},
-    {"block-no-room", build_values, to_no_block},
-    {"start-sheet", build_none, start_sheet},
-    {"amend-undo-data", build_values, amend_and_undo},
-    {"amend-undo-records", build_value_records, amend_and_undo},
-    {"amend-undo-k", build_k, amend_and_undo},
-    {"amend-other-value", build_values, amend_other},
-    {"prefix-listed", build_none, prefix_listed},
-    {"prefix-unlisted", build_none, prefix_unlisted},
+    {"judge-data", build_data, judge, 0},
+    {"judge-catalogue", build_catalogue, judge, 0},
+    {"judge-records", build_records, judge, 0},
+    {"judge-bad-checksum", build_bad_checksum, judge, 3},
+    {"judge-bad-card", build_bad_card, judge, 8},
+    {"lines-data", build_values, to_lines, 0},
+    {"lines-data-zeros", build_data, to_lines, 0},
+    {"lines-catalogue", build_catalogue, to_lines, 0},
+    {"lines-records", build_records, to_lines, 0},
+    {"lines-k", build_k, to_lines, 0},
+    {"lines-no-room", build_data, to_no_lines, 29},
+    {"block-data", build_values, to_block, 0},
+    {"block-data-zeros", build_data, to_block, 0},
+    {"block-catalogue", build_catalogue, to_block, 0},
+    {"block-records", build_records, to_block, 0},
+    {"block-k", build_k, to_block, 0},
+    {"block-bad-last-line", build_values, to_bad_block, 22},
+    {"block-no-room", build_values, to_no_block, 29},
+    {"start-sheet", build_none, start_sheet, 0},
+    {"amend-undo-data", build_values, amend_and_undo, 0},
+    {"amend-undo-records", build_value_records, amend_and_undo, 0},
+    {"amend-undo-k", build_k, amend_and_undo, 0},
+    {"amend-other-value", build_values, amend_other, 43},
+    {"prefix-listed", build_none, prefix_listed, 0},
+    {"prefix-unlisted", build_none, prefix_unlisted, 0},
 };
 
 enum { TASKS = sizeof tasks / sizeof tasks[0] };
@@ -281,6 +283,19 @@ static void prepare(const struct task *task)
     text_length = cedar_a(reference_to_lines(block.bytes, block.length, text, sizeof text));
     if (block.records > 0)
         prepare_sheet();
+}
+
+/* What is timed is what the task says: both give the same answer, with its n. Ends the program if not. */
+static void check_answer(const struct task *task)
+{
+    uint64_t library = task->call(&sets[LIBRARY]);
+    uint64_t reference = task->call(&sets[REFERENCE]);
+
+    if (library != reference || cedar_n(library) != task->n) {
+        fprintf(stderr, "FAILED %s: library %016" PRIx64 ", reference %016" PRIx64 ", n must be %" PRIu32 "\n",
+                task->name, library, reference, task->n);
+        exit(1);
+    }
 }
 
 static volatile uint64_t sink;
@@ -395,11 +410,11 @@ static void print_names(const struct task *task)
     printf("%s\n", task->name);
 }
 
-static void print_all(void (*print)(const struct task *))
+static void for_all(void (*act)(const struct task *))
 {
     for (size_t i = 0; i < TASKS; i++) {
         prepare(&tasks[i]);
-        print(&tasks[i]);
+        act(&tasks[i]);
     }
 }
 
@@ -423,12 +438,13 @@ int main(int argc, char **argv)
     if (argc == 4)
         return make_named_calls(argv[1], argv[2], strtoul(argv[3], NULL, 10));
     if (argc == 2 && strcmp(argv[1], "names") == 0) {
-        print_all(print_names);
+        for_all(print_names);
         return 0;
     }
+    for_all(check_answer);
     printf("%-20s %12s %12s %8s\n", "time, ns a call", "library", "reference", "ratio");
-    print_all(print_times);
+    for_all(print_times);
     printf("\n%-20s %12s %12s\n", "stack, bytes", "library", "reference");
-    print_all(print_stack);
+    for_all(print_stack);
     return 0;
 }

@@ -249,31 +249,41 @@ static void change_value(struct trials *trials, struct chance *chance, const str
     case_fails(trials, "46 for another value", compare_undo(trials, both) == pack(46, 0, 0, 0));
 }
 
-/* The last entry is another one, which is undone where it names a value and its new value stands there. */
-static void replace_entry(struct trials *trials, struct chance *chance, const struct story *story, struct both *both)
+/* Of these entries the last one alone counts: it is undone where it names a value and its new value stands there. */
+static void undo_last(struct trials *trials, const struct story *story, struct both *both,
+                      const struct amendment *entries)
 {
-    struct amendment entries[STANDING_MOST];
-    struct amendment *last = &entries[story->standing - 1];
+    const struct amendment *last = &entries[story->standing - 1];
     uint64_t answer = pack(46, 0, 0, 0);
 
-    memcpy(entries, story->stack, sizeof entries);
-    *last = guess_entry(chance, &both->block);
     sheet_of(&both->sheet, entries, story->standing);
     if (story_has(story, last->place) && story_value(story, last->place) == last->new_value)
         answer = pack(0, story->standing - 1, 0, 0);
-    case_fails(trials, "another last entry told", compare_undo(trials, both) == answer);
+    case_fails(trials, "other entries told", compare_undo(trials, both) == answer);
 }
 
-/* Any entry has another number; all but the last are let stand as they are. */
+/* The last entry is another one. */
+static void replace_entry(struct trials *trials, struct chance *chance, const struct story *story, struct both *both)
+{
+    struct amendment entries[STANDING_MOST];
+
+    memcpy(entries, story->stack, sizeof entries);
+    entries[story->standing - 1] = guess_entry(chance, &both->block);
+    undo_last(trials, story, both, entries);
+}
+
+/* Any entry has another number, often the last one. */
 static void change_entry(struct trials *trials, struct chance *chance, const struct story *story, struct both *both)
 {
+    struct amendment entries[STANDING_MOST];
     size_t others = one_in(chance, 2) ? story->standing - 1 : between(chance, 0, story->standing - 1);
-    uint8_t *entry = sheet_entry(&both->sheet, others);
-    size_t number = between(chance, 1, 4);
+    struct amendment *entry = &entries[others];
+    uint16_t *const numbers[] = {&entry->place.record, &entry->place.word, &entry->old_value, &entry->new_value};
+    uint16_t *number = PICK(chance, numbers);
 
-    put_word(entry, number, like_word(chance, word_at(entry, number)));
-    case_fails(trials, "an undo of the last entry alone",
-               compare_undo(trials, both) == pack(0, story->standing - 1, 0, 0) || others + 1 == story->standing);
+    memcpy(entries, story->stack, sizeof entries);
+    *number = like_word(chance, *number);
+    undo_last(trials, story, both, entries);
 }
 
 /* Entries of zeros within the count are let stand too, but name no place. */

@@ -6,6 +6,7 @@
 #include "blocks.h"
 #include "cedar.h"
 #include "reference.h"
+#include "sheets.h"
 #include "words.h"
 
 /* K's NROW and its record's word 22, as words of the block. */
@@ -281,9 +282,10 @@ static void begin_k(struct amended_k *k, const struct sheet_calls *calls)
     calls->start(k->sheet, sizeof k->sheet);
 }
 
-static uint64_t amend_k(struct amended_k *k, uint16_t word, uint16_t old_value, uint16_t new_value)
+static uint64_t amend_k(struct amended_k *k, uint16_t record, uint16_t word, uint16_t old_value, uint16_t new_value)
 {
-    return k->calls->amend(k->block.bytes, k->block.length, k->sheet, sizeof k->sheet, 1, word, old_value, new_value);
+    return k->calls->amend(k->block.bytes, k->block.length, k->sheet, sizeof k->sheet, record, word, old_value,
+                           new_value);
 }
 
 static uint64_t undo_k(struct amended_k *k)
@@ -314,12 +316,12 @@ static bool shows(const struct amended_k *k, const char *columns)
 /* Examples 3 and 4. */
 static void check_amended(struct tally *tally, const struct sheet_calls *calls)
 {
-    static const uint8_t one_entry[] = {'A', 'M', 'D', 0, 1, 0, 1, 0, 0, 1, 0, 0x16, 3, 0x84, 3, 0x89};
+    static const uint8_t one_entry[SHEET_BYTES] = {'A', 'M', 'D', 0, 1, 0, 1, 0, 0, 1, 0, 0x16, 3, 0x84, 3, 0x89};
     static struct amended_k k;
 
     begin_k(&k, calls);
     check(tally, "a started sheet", is_untouched(&k));
-    check(tally, "example 3", amend_k(&k, 22, 900, 905) == pack(0, 1, 0, 0));
+    check(tally, "example 3", amend_k(&k, 1, 22, 900, 905) == pack(0, 1, 0, 0));
     check(tally, "example 3, checksum", word_at(k.block.bytes, k.block.words) == (uint16_t)-32527);
     check(tally, "example 3, line 5", shows(&k, "   905"));
     check(tally, "example 3, entry", memcmp(k.sheet, one_entry, sizeof one_entry) == 0);
@@ -327,36 +329,108 @@ static void check_amended(struct tally *tally, const struct sheet_calls *calls)
     check(tally, "an empty sheet", undo_k(&k) == pack(45, 0, 0, 0) && is_untouched(&k));
 }
 
-/* Example 5, and the other words about K's values. */
+/* The new value is the old one: K stays, and the entry stands. */
+static void check_same(struct tally *tally, const struct sheet_calls *calls)
+{
+    static const uint8_t one_entry[SHEET_BYTES] = {'A', 'M', 'D', 0, 1, 0, 1, 0, 0, 1, 0, 0x16, 3, 0x84, 3, 0x84};
+    static struct amended_k k;
+
+    begin_k(&k, calls);
+    check(tally, "the old value again", amend_k(&k, 1, 22, 900, 900) == pack(0, 1, 0, 0) && shows(&k, "   900"));
+    check(tally, "the old value again, entry", memcmp(k.sheet, one_entry, sizeof one_entry) == 0);
+    check(tally, "the old value again, undone", undo_k(&k) == pack(0, 0, 0, 0) && is_untouched(&k));
+}
+
+/* Example 5, the other words about K's values, and the records about K's only one. */
 static void check_places(struct tally *tally, const struct sheet_calls *calls)
 {
     static const uint16_t others[] = {0, 1, 16, 17, 19, 20, 25, 26, 65535};
     static struct amended_k k;
 
     begin_k(&k, calls);
-    check(tally, "example 5, old value", amend_k(&k, 22, 901, 905) == pack(43, 900, 0, 0));
+    check(tally, "example 5, old value", amend_k(&k, 1, 22, 901, 905) == pack(43, 900, 0, 0));
     for (size_t i = 0; i < sizeof others / sizeof others[0]; i++)
-        check(tally, "example 5, no value", amend_k(&k, others[i], 550, 0) == pack(42, 0, 0, 0));
-    check(tally, "example 5, untouched", is_untouched(&k));
-    check(tally, "K's 1-D value", amend_k(&k, 18, 285, 0) == pack(0, 1, 0, 0));
-    check(tally, "K's first 2-D value", amend_k(&k, 21, 250, 0) == pack(0, 2, 0, 0));
-    check(tally, "K's last 2-D value", amend_k(&k, 24, (uint16_t)-32767, 0) == pack(0, 3, 0, 0));
+        check(tally, "example 5, no value", amend_k(&k, 1, others[i], 550, 0) == pack(42, 0, 0, 0));
+    check(tally, "no record 0", amend_k(&k, 0, 22, 900, 905) == pack(41, 0, 0, 0));
+    check(tally, "no record 2", amend_k(&k, 2, 22, 900, 905) == pack(41, 0, 0, 0));
+    check(tally, "no place, untouched", is_untouched(&k));
+    check(tally, "K's 1-D value", amend_k(&k, 1, 18, 285, 0) == pack(0, 1, 0, 0));
+    check(tally, "K's first 2-D value", amend_k(&k, 1, 21, 250, 0) == pack(0, 2, 0, 0));
+    check(tally, "K's last 2-D value", amend_k(&k, 1, 24, (uint16_t)-32767, 0) == pack(0, 3, 0, 0));
 }
 
-/* Example 9: 64 amendments of one place, one more, and all undone, the last one first. */
+/* 64 amendments of one place. */
+static void fill_k(struct tally *tally, struct amended_k *k)
+{
+    for (uint16_t standing = 0; standing < STANDING_MOST; standing++)
+        check(tally, "example 9, amendments",
+              amend_k(k, 1, 22, 900 + standing, 901 + standing) == pack(0, 1u + standing, 0, 0));
+}
+
+/* Example 9: one more on a full sheet, and all undone, the last one first. */
 static void check_full(struct tally *tally, const struct sheet_calls *calls)
 {
     static struct amended_k k;
-    uint16_t standing;
+    uint16_t standing = STANDING_MOST;
 
     begin_k(&k, calls);
-    for (standing = 0; standing < STANDING_MOST; standing++)
-        check(tally, "example 9, amendments",
-              amend_k(&k, 22, 900 + standing, 901 + standing) == pack(0, 1u + standing, 0, 0));
-    check(tally, "example 9, a 65th amendment", amend_k(&k, 22, 964, 965) == pack(44, 0, 0, 0) && shows(&k, "   964"));
+    fill_k(tally, &k);
+    check(tally, "example 9, a 65th amendment", amend_k(&k, 1, 22, 964, 965) == pack(44, 0, 0, 0));
+    check(tally, "a 65th amendment, no record", amend_k(&k, 0, 22, 964, 965) == pack(44, 0, 0, 0));
+    check(tally, "a 65th amendment, untouched", shows(&k, "   964"));
     while (standing-- > 0)
         check(tally, "undoing of one place", undo_k(&k) == pack(0, standing, 0, 0));
     check(tally, "all undone", is_untouched(&k));
+}
+
+/* Whether undo gives 46, and leaves K and its sheet as they are. */
+static bool refuses_undo(struct amended_k *k)
+{
+    static struct amended_k before;
+
+    before = *k;
+    return undo_k(k) == pack(46, 0, 0, 0) && memcmp(k->block.bytes, before.block.bytes, k->block.length) == 0 &&
+           memcmp(k->sheet, before.sheet, sizeof k->sheet) == 0;
+}
+
+static void change_k(struct amended_k *k, uint16_t value)
+{
+    put_word(k->block.bytes, K_VALUE, value);
+    block_seal(&k->block);
+}
+
+/* Another value in the block than the entry's new one, and the new one again. */
+static void check_changed(struct tally *tally, const struct sheet_calls *calls)
+{
+    static struct amended_k k;
+
+    begin_k(&k, calls);
+    amend_k(&k, 1, 22, 900, 905);
+    change_k(&k, 906);
+    check(tally, "undo of another value", refuses_undo(&k));
+    change_k(&k, 905);
+    check(tally, "undo of the value again", undo_k(&k) == pack(0, 0, 0, 0) && is_untouched(&k));
+}
+
+/* Last entries that name no record, or no value: the length word, a code, the checksum. Each new value stands there. */
+static void check_entries(struct tally *tally, const struct sheet_calls *calls)
+{
+    static const struct amendment others[] = {
+        {{0, 22}, 905, 900},
+        {{2, 22}, 905, 900},
+        {{1, 0}, 905, 26},
+        {{1, 20}, 905, 550},
+        {{1, 25}, 905, (uint16_t)-32516},
+    };
+    static struct amended_k k;
+    static struct sheet sheet;
+
+    begin_k(&k, calls);
+    for (size_t i = 0; i < sizeof others / sizeof others[0]; i++) {
+        sheet_of(&sheet, &others[i], 1);
+        memcpy(k.sheet, sheet.bytes, sizeof k.sheet);
+        check(tally, "undo of no value", refuses_undo(&k));
+    }
 }
 
 static void check_sheet(struct tally *tally)
@@ -368,8 +442,11 @@ static void check_sheet(struct tally *tally)
 
     for (size_t i = 0; i < sizeof both / sizeof both[0]; i++) {
         check_amended(tally, &both[i]);
+        check_same(tally, &both[i]);
         check_places(tally, &both[i]);
         check_full(tally, &both[i]);
+        check_changed(tally, &both[i]);
+        check_entries(tally, &both[i]);
     }
 }
 

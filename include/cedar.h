@@ -171,8 +171,8 @@ enum { CEDAR_SHEET_BYTES = 520, CEDAR_AMENDMENTS_MOST = 64 };
 uint64_t cedar_sheet_start(uint8_t *sheet, size_t length);
 
 /*
- * Puts `new_value` for `old_value` at word `word` of record `record` of the block in the `block_length` bytes at `block`,
- * which must be exactly one block, and enters that in the sheet in the `sheet_length` bytes at `sheet`.
+ * Puts `new_value` in place of `old_value` at word `word` of record `record` of the block in the `block_length` bytes
+ * at `block`, which must be exactly one block, and enters that in the sheet in the `sheet_length` bytes at `sheet`.
  * Values are passed as words, 0 to 65,535: -5 as 65,531. The new one may be the old one.
  * Only 1-D and 2-D values of Data can be amended: in a record
  *   words LPROL + JPAR + 1 to LPROL + 2 JPAR, and words LPROL + 2 JPAR + MPAR + 1 to LTOT.
