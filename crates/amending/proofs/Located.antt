@@ -8,13 +8,13 @@ use native.Mathlib.Omega.{arith}
 use borrow.Author.Tests.{eq-eqb, ne-eqb, lt-ltb}
 use lib.Dec.{eqb, ltb}
 use lib.ListN.{length, take, drop, length-append}
-use lib.Seq.{slice, split-at, take-append-seam, drop-append-seam, take-append-add}
+use lib.Seq.{slice, split-at}
 use Rattle.units.specs.Choice.{if_then_else_}
 use Rattle.units.specs.Answers.{answer, passed, refused}
 use Rattle.units.specs.declared.Words.{Words}
 use Rattle.words.specs.Words.{wordsOf, joined, framed}
 use Rattle.words.proofs.Laws.{joined-append}
-use Rattle.words.proofs.Lists.{all-at}
+use Rattle.words.proofs.Lists.{slice-part, all-at}
 use Rattle.record.specs.Rules.{RecordOk}
 use Rattle.record.specs.Values.{isValue}
 use Rattle.block.specs.Steps.{placed}
@@ -23,13 +23,6 @@ use Rattle.block.specs.declared.Place.the-variants.{Record, NoMore}
 use Rattle.block.proofs.Exact.{ok-long, words-are}
 use Rattle.amending.specs.Places.{recordIn, noRecord, valuePlace}
 use Rattle.amending.proofs.Numbered.{record-is}
-
--- a part between others
-slice-part : (front part back : List ℕ) → slice (length front) (length front + length part) (front ++ (part ++ back)) ≡ part
-slice-part front part back =
-    ap (drop (length front)) (take-append-add front (part ++ back) (length part))
-    ∙ drop-append-seam front (take (length part) (part ++ back))
-    ∙ take-append-seam part back
 
 -- ---- which record is found
 

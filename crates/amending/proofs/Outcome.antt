@@ -3,13 +3,11 @@ use mathlib.Core.Path.{_≡_, refl, sym, ap, _∙_}
 use mathlib.Core.List.{List, [], _∷_, _++_}
 use Prim.Native.Nat.{ℕ, _+_, _-_, _<_}
 use native.Mathlib.Omega.{arith}
-use lib.Bits.{bitXor}
 use lib.ListN.{length, getD, take, length-append}
-use lib.Seq.{sets, length-take-le}
-use Rattle.units.specs.Units.{bytesOfWords}
+use lib.Seq.{length-take-le}
 use Rattle.units.specs.declared.Answer.{Answer}
 use Rattle.units.specs.Answers.{answer, Verdict, passed, refused, onward}
-use Rattle.words.specs.Words.{wordsOf, bytesOf, Below}
+use Rattle.words.specs.Words.{wordsOf, Below}
 use Rattle.block.specs.Judging.{judged, Accepted}
 use Rattle.block.specs.Records.{recordsOf}
 use Rattle.block.specs.Rules.{IsBlock}

@@ -7,8 +7,7 @@ use native.Mathlib.Omega.{arith}
 use borrow.Author.Tests.{not-false}
 use lib.Bits.{bitXor}
 use lib.ListN.{length, getD, take, set, length-set, List·getD-append}
-use lib.Seq.{sets, set-append-left, set-at, getD-append-seam}
-use Rattle.units.specs.Units.{bytesOfWords}
+use lib.Seq.{set-append-left, set-at, getD-append-seam}
 use Rattle.units.specs.Answers.{passed}
 use Rattle.units.proofs.Verdicts.{else-passed}
 use Rattle.words.specs.Words.{wordsOf, bytesOf, xorAll, joined, framed}

@@ -1,14 +1,15 @@
 -- The text of amended records: it differs in the amended six columns only, and they show the values that stand.
 use mathlib.Core.Path.{_≡_, refl, sym, ap, ap₂, subst, _∙_}
-use mathlib.Core.Logic.{_⊎_, inl, inr}
+use mathlib.Core.Logic.{_⊎_}
 use mathlib.Core.List.{List, [], _∷_, _++_, map, append-nil}
 use Prim.Native.Nat.{ℕ, zero, suc, _+_, _≤_, _<_}
 use native.Mathlib.Omega.{arith}
 use lib.ListN.{length, getD, take, drop, set, length-append}
-use lib.Seq.{sets, slice, length-sets, take-all, split-at, set-split, getD-set-other}
+use lib.Seq.{sets, slice, length-sets, take-all, split-at, set-split}
 use Rattle.words.specs.Words.{All}
 use Rattle.words.proofs.Lists.{all-map}
 use Rattle.words.proofs.Sealing.{slice-sets}
+use Rattle.words.proofs.Stores.{sets-outside}
 use Rattle.record.specs.Rules.{RecordOk}
 use Rattle.field.specs.Writing.{fieldOf}
 use Rattle.field.proofs.Written.{length-fieldOf}
@@ -82,12 +83,6 @@ module _ (rs : List (List ℕ)) (e : Entry) (good : All RecordOk rs) (p : Named 
       ∙ slice-sets (textOf (before ++ its rs e ∷ after)) (fieldOf v) c (c + 6) (ap (λ n. c + n) (length-fieldOf v)) (columns-inside before after (its rs e) (w .ok) (w .kind) j (w .low) (w .high))
 
 -- ---- the stack
-
--- a run of stores leaves what stands outside of it
-sets-outside : (l vs : List ℕ) (i k : ℕ) → (k < i) ⊎ (i + length vs ≤ k) → getD (sets l i vs) k 0 ≡ getD l k 0
-sets-outside l [] i k h = refl
-sets-outside l (v ∷ vs) i k (inl h) = sets-outside (set l i v) vs (suc i) k (inl (omega arith)) ∙ getD-set-other l i k v 0 (λ e. omega arith)
-sets-outside l (v ∷ vs) i k (inr h) = sets-outside (set l i v) vs (suc i) k (inr (omega arith)) ∙ getD-set-other l i k v 0 (λ e. omega arith)
 
 pub stack-outside : (rs : List (List ℕ)) (es : List Entry) → All RecordOk rs → Stack rs es
     → (i : ℕ) → All (λ e. Outside i (bytesBefore rs e)) es → getD (textOf (putIn rs es)) i 0 ≡ getD (textOf rs) i 0

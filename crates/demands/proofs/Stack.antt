@@ -67,10 +67,10 @@ stack-named rs (e ∷ es) good s =
 abbrev pub total : List ℕ → ℕ
 total = foldr (λ n t. n + t) 0
 
-length-joined : (rs : List (List ℕ)) → length (joined rs) ≡ total (map length rs)
+joined-total : (rs : List (List ℕ)) → length (joined rs) ≡ total (map length rs)
 unfolding joined
-length-joined [] = refl
-length-joined (r ∷ rs) = length-append r (joined rs) ∙ ap (λ n. length r + n) (length-joined rs)
+joined-total [] = refl
+joined-total (r ∷ rs) = length-append r (joined rs) ∙ ap (λ n. length r + n) (joined-total rs)
 
 -- a block of them is a good block again
 module _ (rs : List (List ℕ)) (es : List Entry) (good : IsBlock (blockOf rs) rs) (s : Stack rs es) where
@@ -78,7 +78,7 @@ module _ (rs : List (List ℕ)) (es : List Entry) (good : IsBlock (blockOf rs) r
   putIn-block =
       let a = putIn-alike rs es (good .each) s in
       let n = alike-count rs (putIn rs es) a in
-      let m = length-joined (putIn rs es) ∙ ap total (a ℕ length steady-size) ∙ sym (length-joined rs) in
+      let m = joined-total (putIn rs es) ∙ ap total (a ℕ length steady-size) ∙ sym (joined-total rs) in
       record { bytes = refl; each = putIn-good rs es (good .each) s; some = omega (arith, good .some, n); most = omega (arith, good .most, m) }
 
 -- ---- the value that stands

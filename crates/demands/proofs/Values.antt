@@ -67,7 +67,7 @@ pub record Named (rs : List (List ℕ)) (e : Entry) : Type 0 where
 abbrev pub Steady : {A : Type 0} → (List ℕ → A) → Type 0
 Steady f = (r : List ℕ) (j v : ℕ) → ValueWord r j → f (set r j v) ≡ f r
 
-pub steady-value : (w : ℕ) → Steady (λ r. isValue r w)
+steady-value : (w : ℕ) → Steady (λ r. isValue r w)
 unfolding isValue
 steady-value w r j v h =
     rw (same r j v h 1 (omega arith), same r j v h 12 (omega arith), same r j v h 13 (omega arith), same r j v h 14 (omega arith), same r j v h 15 (omega arith))

@@ -1,22 +1,17 @@
 -- Where a word stands that may be amended.
-use mathlib.Core.Path.{_≡_, refl}
-use mathlib.Core.Bool.{Bool, true, false, _||_}
+use mathlib.Core.Path.{_≡_}
+use mathlib.Core.Bool.{true, _||_}
 use mathlib.Core.List.{List}
 use Prim.Native.Nat.{ℕ, _+_, _≤_, _<_}
 use native.Mathlib.Omega.{arith}
 use borrow.Author.Tests.{leb-true, eqb-true}
 use lib.Dec.{leb, eqb}
 use lib.ListN.{length}
-use Rattle.units.proofs.Verdicts.{and-on}
+use Rattle.units.proofs.Verdicts.{and-on, either-on}
 use Rattle.words.specs.Words.{word}
 use Rattle.record.specs.Judging.{within, wordsNeeded}
 use Rattle.record.specs.Rules.{DataOk, KindOk, catalogue, header, dataRecord, RecordOk}
 use Rattle.record.specs.Values.{isValue}
-
--- what follows from each of two tests
-either-on : {P : Type 0} (s t : Bool) → (s ≡ true → P) → (t ≡ true → P) → (s || t) ≡ true → P
-either-on true t h k e = h refl
-either-on false t h k e = k e
 
 within-on : (least most x : ℕ) → within least most x ≡ true → (least ≤ x) × (x ≤ most)
 within-on least most x e = let a = and-on (leb least x) _ e in (leb-true least x (a .0), leb-true x most (a .1))

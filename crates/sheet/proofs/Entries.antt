@@ -16,14 +16,14 @@ use Rattle.sheet.specs.Rules.{IsEntry, IsSheet}
 use Rattle.sheet.proofs.Sheets.{numbersOf, length-joined}
 
 -- numbers are put among the numbers
-pub numbers-put : (v c : ℕ) (ws : List ℕ) (i : ℕ) (xs : List ℕ) → sets (sheetWith v c ws) (8 + bytesOfWords i) (bytesOf xs) ≡ sheetWith v c (sets ws i xs)
+numbers-put : (v c : ℕ) (ws : List ℕ) (i : ℕ) (xs : List ℕ) → sets (sheetWith v c ws) (8 + bytesOfWords i) (bytesOf xs) ≡ sheetWith v c (sets ws i xs)
 unfolding sheetWith bytesOf
 numbers-put v c ws i xs =
     let front = take 8 (sheetWith v c ws) in
     sets-right (bytesOf xs) front (bytesOf ws) (bytesOfWords i) ∙ ap (λ l. front ++ l) (bytes-sets ws i xs)
 
 -- and a count in place of the count
-pub count-put : (v c c′ : ℕ) (ws : List ℕ) → sets (sheetWith v c ws) 5 (bytesOf (c′ ∷ [])) ≡ sheetWith v c′ ws
+count-put : (v c c′ : ℕ) (ws : List ℕ) → sets (sheetWith v c ws) 5 (bytesOf (c′ ∷ [])) ≡ sheetWith v c′ ws
 unfolding sheetWith bytesOf
 count-put v c c′ ws = refl
 

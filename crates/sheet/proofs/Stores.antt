@@ -79,9 +79,9 @@ pub added : (s : List ℕ) (count : ℕ) (e : Entry) {s₁ s₂ : List ℕ} → 
 added s count e h n room four e₁ e₂ = rw (e₂, e₁, n) (entry-added version1 s (entriesOf version1 s) e h (omega arith) four)
 
 -- zeros in place of the last entry, and the count
-pub last-cleared : (s : List ℕ) (left : ℕ) {s₁ s₂ : List ℕ} → KeepsLayout version1 s → left + 1 ≡ length (entriesOf version1 s)
+pub removed : (s : List ℕ) (left : ℕ) {s₁ s₂ : List ℕ} → KeepsLayout version1 s → left + 1 ≡ length (entriesOf version1 s)
     → s₁ ≡ sets s (8 + bytesOfWords (left * 4)) (bytesOf (replicate 4 0)) → s₂ ≡ sets s₁ 5 (bytesOf (left ∷ [])) → s₂ ≡ sheetOf version1 (take left (entriesOf version1 s))
-last-cleared s left h n e₁ e₂ =
+removed s left h n e₁ e₂ =
     let l : left ≡ length (entriesOf version1 s) - 1 = omega (arith, n) in
     rw (e₂, e₁, l) (entry-cleared version1 s (entriesOf version1 s) h (omega (arith, n)))
 

@@ -23,3 +23,8 @@ or-off false t e = (refl, e)
 pub and-on : (s t : Bool) → (s && t) ≡ true → (s ≡ true) × (t ≡ true)
 and-on true t e = (refl, e)
 and-on false t e = let z : _≡_ {A = ℕ} 0 1 = cc in absurd (omega arith)
+
+-- what follows from each of two tests
+pub either-on : {P : Type 0} (s t : Bool) → (s ≡ true → P) → (t ≡ true → P) → (s || t) ≡ true → P
+either-on true t h k e = h refl
+either-on false t h k e = k e

@@ -1,11 +1,12 @@
 -- Stores into a part of a list, and stores of words among words as stores of their bytes.
 use mathlib.Core.Path.{_≡_, refl, ap, _∙_}
+use mathlib.Core.Logic.{_⊎_, inl, inr}
 use mathlib.Core.List.{List, [], _∷_, _++_}
-use Prim.Native.Nat.{ℕ, zero, suc, _+_, _*_, _/_, _%_, _≤_}
+use Prim.Native.Nat.{ℕ, zero, suc, _+_, _*_, _/_, _%_, _≤_, _<_}
 use native.Mathlib.Nat.{zero-add, suc-add}
 use native.Mathlib.Omega.{arith}
-use lib.ListN.{length, set, length-append, length-set}
-use lib.Seq.{sets, set-append-left, sets-eq, drop-at}
+use lib.ListN.{length, getD, set, length-append, length-set}
+use lib.Seq.{sets, getD-set-other, set-append-left, sets-eq, drop-at}
 use Rattle.units.specs.Units.{bytesOfWords}
 use Rattle.words.specs.Words.{bytesOf}
 
@@ -37,6 +38,12 @@ module _ {A : Type 0} where
       ∙ ap (λ l. xs ++ l) (sets-eq new (old ++ ys) 0 (omega (arith, length-append old ys)) ∙ ap (λ l. new ++ l) (drop-at old ys (0 + length new) (omega arith)))
 
 -- one word
+-- a run of stores leaves what stands outside of it
+pub sets-outside : (l vs : List ℕ) (i k : ℕ) → (k < i) ⊎ (i + length vs ≤ k) → getD (sets l i vs) k 0 ≡ getD l k 0
+sets-outside l [] i k h = refl
+sets-outside l (v ∷ vs) i k (inl h) = sets-outside (set l i v) vs (suc i) k (inl (omega arith)) ∙ getD-set-other l i k v 0 (λ e. omega arith)
+sets-outside l (v ∷ vs) i k (inr h) = sets-outside (set l i v) vs (suc i) k (inr (omega arith)) ∙ getD-set-other l i k v 0 (λ e. omega arith)
+
 bytes-set : (ws : List ℕ) (i w : ℕ) → sets (bytesOf ws) (bytesOfWords i) (bytesOf (w ∷ [])) ≡ bytesOf (set ws i w)
 unfolding bytesOf
 bytes-set [] i w = refl

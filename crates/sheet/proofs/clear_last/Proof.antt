@@ -1,6 +1,6 @@
 use denote.Ref.{now}
 use native.Mathlib.Omega.{arith}
-use Rattle.sheet.proofs.Stores.{last-cleared}
+use Rattle.sheet.proofs.Stores.{removed}
 use Rattle.sheet.proofs.Sheets.{length-sheet}
 use Rattle.sheet.specs.Sheets.{version1, entriesOf}
 use borrow.Author.Needs.{needs}
@@ -17,7 +17,7 @@ same-length : tie.Need-same-length
 same-length c = search needs
 
 returns : tie.Need-returns
-returns c = last-cleared (now (c .before .before .before .before .before .before .before .before .before .args .sheet)) (c .before .before .before .before .before .before .before .before .before .args .left) (c .before .before .before .before .before .before .before .before .before .pre .0) (c .before .before .before .before .before .before .before .before .before .pre .1) (c .before .before .before .before .before .before .put-numbers .ensures) (c .before .before .put-count .ensures)
+returns c = removed (now (c .before .before .before .before .before .before .before .before .before .args .sheet)) (c .before .before .before .before .before .before .before .before .before .args .left) (c .before .before .before .before .before .before .before .before .before .pre .0) (c .before .before .before .before .before .before .before .before .before .pre .1) (c .before .before .before .before .before .before .put-numbers .ensures) (c .before .before .put-count .ensures)
 
 pub clear-last-spec : {M : Type 1} → statement M
 clear-last-spec = tie.close (tie.spec put-numbers-requires put-count-requires same-length returns)
