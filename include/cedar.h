@@ -85,7 +85,7 @@ static inline uint32_t cedar_c(uint64_t answer) { return (uint32_t)answer & 0xff
  *
  *   n  given when                                          a        b               c
  *   0  the block is accepted                               records
- *   1  length is odd, under 36 or over 16,000
+ *   1  its length is odd, under 36 or over 16,000 bytes
  *   2  word 1 is not the count of words
  *   3  the checksum is wrong                                                        wrong bits
  *   4  under 16 words are left for a record                record   1
@@ -94,8 +94,8 @@ static inline uint32_t cedar_c(uint64_t answer) { return (uint32_t)answer & 0xff
  *      (Data: under 16), or runs into the checksum
  *   7  a word that must be zero is not                     record   its word
  *   8  a card has a byte that is not 32 to 126             record   the byte's word
- *   9  Data: a count is under its least value              record   13, 14, 15, 16
- *      Data: LTOT is not the sum that the counts give      record   1
+ *   9  Data: a count is under its least value, or          record   13, 14, 15, 16
+ *      LTOT is not the sum that the counts give            record   1
  *
  * Tried in this order: 1, 2, 3, then 4 to 9 for each record in turn; the first that holds is the answer.
  * Where several places are wrong in the same way, b is the first of them.
@@ -112,7 +112,7 @@ enum { CEDAR_TEXT_MOST = 55971 };
  *   n       given when                                     a               b               c
  *   0       the lines are written                          bytes written
  *   1 to 9  cedar_judge refuses the block                  as there        as there        as there
- *   29      text_length is less than the lines need        bytes needed
+ *   29      the output is shorter than needed              bytes needed
  *
  * Tried in this order: 1 to 9, then 29; so a call with text_length 0 asks how many bytes an accepted block needs.
  * Bytes of the text past those written stay as they are: no NUL is added.
@@ -133,17 +133,17 @@ enum { CEDAR_READ_MOST = 65536, CEDAR_BLOCK_MOST = 16000 };
  *   21  the text has no record
  *   22  a field is no number from -32,768 to 32,767        line            its first column
  *   23  the kind is unknown                                line            7
- *   24  Catalogue, Header: field 1 is not 1 to 199         line            1
- *       Data: field 1 is not the lines its counts need     line            1
+ *   24  Catalogue, Header: field 1 is not 1 to 199;        line            1
+ *       Data: it is not the lines that its counts need     line            1
  *   25  the text ends inside a record                      last line + 1   1
- *   26  a column that must be blank is not                 line            that column
- *       a field that must be 0 or blank is another number  line            its first column
+ *   26  a column that must be blank is not, or a field     line            that column
+ *       that must be 0 or blank is another number          line            its first column
  *   27  Data: a count is under its least value             line            its first column
  *   28  the records up to this one have over 7,998 words,  line            1
  *       as field 1 or the counts say, even if its lines
  *       are not there
- *   29  block_length is less than the block needs          bytes needed
- *   30  text_length is over 65,536
+ *   29  the output is shorter than needed                  bytes needed
+ *   30  the text is over 65,536 bytes
  *
  * Tried in this order: 30, then line by line, and at the end 21, then 29; the first that holds is the answer.
  * So a call with block_length 0 asks how many bytes an accepted text needs.
@@ -166,7 +166,7 @@ enum { CEDAR_SHEET_BYTES = 520, CEDAR_AMENDMENTS_MOST = 64 };
  *
  *   n   given when                                         a               b               c
  *   0   the sheet is written
- *   40  length is not 520
+ *   40  the sheet is not 520 bytes
  */
 uint64_t cedar_sheet_start(uint8_t *sheet, size_t length);
 
@@ -180,12 +180,12 @@ uint64_t cedar_sheet_start(uint8_t *sheet, size_t length);
  *   n       given when                                     a               b               c
  *   0       the value is amended                           standing
  *   1 to 9  cedar_judge refuses the block                  as there        as there        as there
- *   40      sheet_length is not 520, or the sheet's mark,
+ *   40      the sheet is not 520 bytes, or its mark,
  *           version, count or zero byte is wrong, or an
  *           entry past the count is not zero
  *   41      the block has no such record
  *   42      that word is no value of a Data record
- *   43      old_value is not what stands there             the word found
+ *   43      the old value is not what stands there         the word found
  *   44      64 amendments stand
  *
  * Tried in this order: 1 to 9, 40, 44, 41, 42, 43; the first that holds is the answer.
