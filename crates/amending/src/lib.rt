@@ -197,13 +197,13 @@ fn refusal_numbers(r: Refusal) -> Answer
 {
     match r {
         Refusal::Block(b) => block::refusal_numbers(b),
-        Refusal::Broken => sheet::row(40, 0),
-        Refusal::NoRecord => sheet::row(41, 0),
-        Refusal::NoValue => sheet::row(42, 0),
-        Refusal::Differs(found) => sheet::row(43, found),
-        Refusal::Full => sheet::row(44, 0),
-        Refusal::Empty => sheet::row(45, 0),
-        Refusal::NotStanding => sheet::row(46, 0),
+        Refusal::Broken => units::row(40, 0, 0, 0),
+        Refusal::NoRecord => units::row(41, 0, 0, 0),
+        Refusal::NoValue => units::row(42, 0, 0, 0),
+        Refusal::Differs(found) => units::row(43, found, 0, 0),
+        Refusal::Full => units::row(44, 0, 0, 0),
+        Refusal::Empty => units::row(45, 0, 0, 0),
+        Refusal::NotStanding => units::row(46, 0, 0, 0),
     }
 }
 
@@ -212,7 +212,7 @@ pub fn numbers(a: Amended) -> Answer
     ensures { λ r. ⌜ (r ≡ answered (amendedOf a)) × (r .a < 65536) ⌝ }
 {
     match a {
-        Amended::Standing(count) => sheet::row(0, count),
+        Amended::Standing(count) => units::row(0, count, 0, 0),
         Amended::Refused(r) => refusal_numbers(r),
     }
 }

@@ -7,7 +7,6 @@ use units::Words;
 ghost use mathlib.Core.Path.{_≡_};
 ghost use Prim.Native.Nat.{_<_, _≤_};
 ghost use lib.ListN.{length};
-ghost use Rattle.units.specs.Answers.{answer};
 ghost use Rattle.words.specs.Words.{wordsOf};
 ghost use Rattle.block.specs.Judging.{wrongSize, walk, judged};
 ghost use Rattle.block.specs.Cases.{refusalOf, judgedOf, answerOf};
@@ -98,7 +97,7 @@ pub fn numbers(j: Judged) -> Answer
     ensures { λ r. ⌜ (r ≡ answerOf j) × (r .a < 65536) ⌝ }
 {
     match j {
-        Judged::Records(k) => four(0, k, 0),
+        Judged::Records(k) => units::row(0, k, 0, 0),
         Judged::Refused(r) => refusal_numbers(r),
     }
 }
@@ -108,22 +107,10 @@ pub fn refusal_numbers(r: Refusal) -> Answer
     ensures { λ s. ⌜ (s ≡ refusalOf r) × (s .a < 65536) ⌝ }
 {
     match r {
-        Refusal::Size => four(1, 0, 0),
-        Refusal::WordCount => four(2, 0, 0),
-        Refusal::Checksum(bits) => four(3, 0, bits),
+        Refusal::Size => units::row(1, 0, 0, 0),
+        Refusal::WordCount => units::row(2, 0, 0, 0),
+        Refusal::Checksum(bits) => units::row(3, 0, 0, bits),
         Refusal::Record(f) => record::numbers(f),
-    }
-}
-
-// An answer with no b.
-fn four(n: u8, a: u16, c: u16) -> Answer
-    ensures { λ r. ⌜ (r ≡ answer n a 0 c) × (r .a < 65536) ⌝ }
-{
-    Answer {
-        n,
-        a: a as u32,
-        b: 0,
-        c,
     }
 }
 

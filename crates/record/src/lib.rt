@@ -5,7 +5,6 @@ use units::Words;
 ghost use mathlib.Core.Path.{_≡_};
 ghost use Prim.Native.Nat.{_+_, _*_, _<_, _≤_};
 ghost use lib.ListN.{length};
-ghost use Rattle.units.specs.Answers.{answer};
 ghost use Rattle.words.specs.Words.{wordsOf};
 ghost use Rattle.record.specs.Judging.{passing, within, wordWithin, wrongTotal, underLeast, wordsNeeded, judgeCards, judgeCounts, judgeData, judgeRecord};
 ghost use Rattle.record.specs.Cases.{faultOf, checkedOf};
@@ -209,29 +208,29 @@ pub fn line_count(whole: &[u8]) -> Lines
     lines_needed(lprol, jpar, mpar, nrow)
 }
 
-// A place lies from `least` to `most`.
-fn place_within(place: usize, least: usize, most: usize) -> bool
-    ensures { λ r. ⌜ r ≡ within least most place ⌝ }
+// A word's number lies from `least` to `most`.
+fn is_between(word: usize, least: usize, most: usize) -> bool
+    ensures { λ r. ⌜ r ≡ within least most word ⌝ }
 {
-    least <= place && place <= most
+    least <= word && word <= most
 }
 
-// Word `place` of a Data record with these counts is a 1-D or a 2-D value.
-fn among_values(place: Words, lprol: u16, jpar: u16, mpar: u16, nrow: u16) -> bool
-    ensures { λ r. ⌜ r ≡ amongValues lprol jpar mpar nrow (place .0) ⌝ }
+// Word `word` of a Data record with these counts is a 1-D or a 2-D value.
+fn among_values(word: Words, lprol: u16, jpar: u16, mpar: u16, nrow: u16) -> bool
+    ensures { λ r. ⌜ r ≡ amongValues lprol jpar mpar nrow (word .0) ⌝ }
 {
-    let w = place.0;
+    let w = word.0;
     let codes = lprol as usize + jpar as usize;
     let values = codes + jpar as usize;
     let row_codes = values + mpar as usize;
     let last = words_needed(lprol, jpar, mpar, nrow).0;
-    place_within(w, codes + 1, values) || place_within(w, row_codes + 1, last)
+    is_between(w, codes + 1, values) || is_between(w, row_codes + 1, last)
 }
 
-// Word `place` of a good record may be amended.
-pub fn is_value(whole: &[u8], place: Words) -> bool
+// Word `word` of a good record may be amended.
+pub fn is_value(whole: &[u8], word: Words) -> bool
     requires { ⌜ 16 ≤ length (wordsOf (now whole)) ⌝ }
-    ensures { λ r. ⌜ r ≡ isValue (wordsOf (now (whole .entry))) (place .0) ⌝ }
+    ensures { λ r. ⌜ r ≡ isValue (wordsOf (now (whole .entry))) (word .0) ⌝ }
 {
     if words::word_at(whole, Words(1)) != DATA {
         return false;
@@ -240,7 +239,7 @@ pub fn is_value(whole: &[u8], place: Words) -> bool
     let jpar = words::word_at(whole, Words(13));
     let mpar = words::word_at(whole, Words(14));
     let nrow = words::word_at(whole, Words(15));
-    among_values(place, lprol, jpar, mpar, nrow)
+    among_values(word, lprol, jpar, mpar, nrow)
 }
 
 // The four numbers of a fault.
@@ -248,23 +247,11 @@ pub fn numbers(f: Fault) -> Answer
     ensures { λ r. ⌜ (r ≡ faultOf f) × (r .a < 65536) ⌝ }
 {
     match f {
-        Fault::Short(k) => at_word(4, k, 1),
-        Fault::Kind(k) => at_word(5, k, 2),
-        Fault::Total(k) => at_word(6, k, 1),
-        Fault::NotZero(k, w) => at_word(7, k, w),
-        Fault::Card(k, w) => at_word(8, k, w),
-        Fault::Counts(k, w) => at_word(9, k, w),
-    }
-}
-
-// Fault n at a record and a word of it.
-fn at_word(n: u8, k: u16, w: u16) -> Answer
-    ensures { λ s. ⌜ (s ≡ answer n k w 0) × (s .a < 65536) ⌝ }
-{
-    Answer {
-        n,
-        a: k as u32,
-        b: w,
-        c: 0,
+        Fault::Short(k) => units::row(4, k, 1, 0),
+        Fault::Kind(k) => units::row(5, k, 2, 0),
+        Fault::Total(k) => units::row(6, k, 1, 0),
+        Fault::NotZero(k, w) => units::row(7, k, w, 0),
+        Fault::Card(k, w) => units::row(8, k, w, 0),
+        Fault::Counts(k, w) => units::row(9, k, w, 0),
     }
 }

@@ -39,19 +39,19 @@ pass-zeros (w ∷ ws) e = by (eqb w 0) refl e (pass-zeros ws)
 -- ---- the entries
 
 -- entries of one size, end to end
-pub length-joined : (y : Layout) (es : List Entry) → All (IsEntry y) es → length (joined es) ≡ length es * y .size
+pub length-joined : (y : Layout) (es : List Entry) → All (IsEntry y) es → length (joined es) ≡ length es * y .words
 unfolding joined
 length-joined y [] h = omega arith
 length-joined y (e ∷ es) h = omega (arith, length-append e (joined es), h .0 .size, length-joined y es (h .1))
 
 -- are cut again where they were joined
-entries-joined : (y : Layout) (es : List Entry) (tail : List ℕ) → All (IsEntry y) es → entries (y .size) (length es) (joined es ++ tail) ≡ es
+entries-joined : (y : Layout) (es : List Entry) (tail : List ℕ) → All (IsEntry y) es → entries (y .words) (length es) (joined es ++ tail) ≡ es
 unfolding entries joined
 entries-joined y [] tail h = refl
 entries-joined y (e ∷ es) tail h =
     let rest = joined es ++ tail in
     let s = h .0 .size in
-    rw (append-assoc e (joined es) tail, take-at e rest (y .size) s, drop-at e rest (y .size) s) (ap (λ l. e ∷ l) (entries-joined y es tail (h .1)))
+    rw (append-assoc e (joined es) tail, take-at e rest (y .words) s, drop-at e rest (y .words) s) (ap (λ l. e ∷ l) (entries-joined y es tail (h .1)))
 
 -- and words that are cut are joined again, as far as they were cut
 joined-entries : (size n : ℕ) (ws : List ℕ) → joined (entries size n ws) ≡ take (n * size) ws
@@ -68,27 +68,27 @@ length-entries size zero ws = refl
 length-entries size (suc n) ws = ap suc (length-entries size n (drop size ws))
 
 -- each with as many numbers as the layout says
-entries-each : (y : Layout) (n : ℕ) (ws : List ℕ) → n * y .size ≤ length ws → Below 65536 ws → All (IsEntry y) (entries (y .size) n ws)
+entries-each : (y : Layout) (n : ℕ) (ws : List ℕ) → n * y .words ≤ length ws → Below 65536 ws → All (IsEntry y) (entries (y .words) n ws)
 unfolding entries
 entries-each y zero ws h b = tt
 entries-each y (suc n) ws h b =
-    let l = length-drop (y .size) ws in
-    let e : suc n * y .size ≡ y .size + n * y .size = omega arith in (
-      record { size = length-take-le (y .size) ws (omega arith); numbers = all-take (λ w. w < 65536) (y .size) ws b },
-      entries-each y n (drop (y .size) ws) (omega arith) (all-drop (λ w. w < 65536) (y .size) ws b),
+    let l = length-drop (y .words) ws in
+    let e : suc n * y .words ≡ y .words + n * y .words = omega arith in (
+      record { size = length-take-le (y .words) ws (omega arith); numbers = all-take (λ w. w < 65536) (y .words) ws b },
+      entries-each y n (drop (y .words) ws) (omega arith) (all-drop (λ w. w < 65536) (y .words) ws b),
     )
 
 -- the places of the entries that stand, and those past them, are all places
-all-places : (y : Layout) (n : ℕ) → n ≤ y .limit → n * y .size + (y .limit - n) * y .size ≡ y .limit * y .size
-all-places y n h = let e : n + (y .limit - n) ≡ y .limit = omega arith in sym (add-mul n (y .limit - n) (y .size)) ∙ ap (λ k. k * y .size) e
+all-places : (y : Layout) (n : ℕ) → n ≤ y .limit → n * y .words + (y .limit - n) * y .words ≡ y .limit * y .words
+all-places y n h = let e : n + (y .limit - n) ≡ y .limit = omega arith in sym (add-mul n (y .limit - n) (y .words)) ∙ ap (λ k. k * y .words) e
 
 -- the numbers of all places: those of the entries, and zeros past them
 abbrev pub numbersOf : Layout → List Entry → List ℕ
-numbersOf y es = joined es ++ replicate ((y .limit - length es) * y .size) 0
+numbersOf y es = joined es ++ replicate ((y .limit - length es) * y .words) 0
 
-length-numbers : (y : Layout) (es : List Entry) → All (IsEntry y) es → length es ≤ y .limit → length (numbersOf y es) ≡ y .limit * y .size
+length-numbers : (y : Layout) (es : List Entry) → All (IsEntry y) es → length es ≤ y .limit → length (numbersOf y es) ≡ y .limit * y .words
 length-numbers y es h most =
-    let past : ℕ = (y .limit - length es) * y .size in
+    let past : ℕ = (y .limit - length es) * y .words in
     omega (arith, length-append (joined es) (replicate past 0), length-joined y es h, length-replicate {A = ℕ} past 0, all-places y (length es) most)
 
 -- ---- the bytes
@@ -120,7 +120,7 @@ record Kept (y : Layout) (s : List ℕ) : Type 0 where
   version-is : numberAt s 3 ≡ y .version
   most : countIn s ≤ y .limit
   zero-byte : getD s 7 0 ≡ 0
-  past : passing isZero (drop (countIn s * y .size) (numbersIn s)) ≡ length (drop (countIn s * y .size) (numbersIn s))
+  past : passing isZero (drop (countIn s * y .words) (numbersIn s)) ≡ length (drop (countIn s * y .words) (numbersIn s))
 
 -- a sheet that is opened passed them all
 opened-kept : (y : Layout) (s : List ℕ) (k : ℕ) → opened y s ≡ passed k → Kept y s × (countIn s ≡ k)
@@ -177,7 +177,7 @@ sheet-kept y es h =
     let v = y .version in
     let n = length es in
     let ws = numbersOf y es in
-    let past : ℕ = (y .limit - n) * y .size in
+    let past : ℕ = (y .limit - n) * y .words in
     record {
       size = length-sheet y (sheetOf y es) es h;
       mark-1 = refl;
@@ -186,7 +186,7 @@ sheet-kept y es h =
       version-is = version-with v n ws;
       most = rw (count-with v n ws) (h .most);
       zero-byte = refl;
-      past = rw (count-with v n ws, numbers-with v n ws, drop-at (joined es) (replicate past 0) (n * y .size) (length-joined y es (h .each))) (zeros-pass past ∙ sym (length-replicate past 0));
+      past = rw (count-with v n ws, numbers-with v n ws, drop-at (joined es) (replicate past 0) (n * y .words) (length-joined y es (h .each))) (zeros-pass past ∙ sym (length-replicate past 0));
     }
 
 -- a sheet of entries is opened, with their number, and they are its entries
@@ -199,7 +199,7 @@ opened-sheet y s es h =
     let count = count-with v n ws in
     rw (h .bytes) (
       kept-opened y (sheetOf y es) (sheet-kept y es (rw (h .bytes) at h)) ∙ ap (λ k. passed k) count,
-      ap₂ (entries (y .size)) count (numbers-with v n ws) ∙ entries-joined y es _ (h .each),
+      ap₂ (entries (y .words)) count (numbers-with v n ws) ∙ entries-joined y es _ (h .each),
     )
 
 -- ---- from the sheet to the entries
@@ -219,12 +219,12 @@ with-parts y s b h =
     (cc (d 0 (omega arith), d 1 (omega arith), d 2 (omega arith), d 3 (omega arith), d 4 (omega arith), d 5 (omega arith), d 6 (omega arith), d 7 (omega arith), h .mark-1, h .mark-2, h .mark-3, h .zero-byte))
 
 -- numbers that are zero past so many entries are the numbers of those entries
-numbers-entries : (y : Layout) (n : ℕ) (ws : List ℕ) → n ≤ y .limit → length ws ≡ y .limit * y .size → passing isZero (drop (n * y .size) ws) ≡ length (drop (n * y .size) ws)
-    → ws ≡ numbersOf y (entries (y .size) n ws)
+numbers-entries : (y : Layout) (n : ℕ) (ws : List ℕ) → n ≤ y .limit → length ws ≡ y .limit * y .words → passing isZero (drop (n * y .words) ws) ≡ length (drop (n * y .words) ws)
+    → ws ≡ numbersOf y (entries (y .words) n ws)
 numbers-entries y n ws most size none =
-    let past : length (drop (n * y .size) ws) ≡ (y .limit - n) * y .size = omega (arith, length-drop (n * y .size) ws, all-places y n most) in
-    sym (take-append-drop (n * y .size) ws)
-    ∙ rw (length-entries (y .size) n ws) (ap₂ (λ (a z : List ℕ). a ++ z) (sym (joined-entries (y .size) n ws)) (pass-zeros (drop (n * y .size) ws) none ∙ ap (λ m. replicate m 0) past))
+    let past : length (drop (n * y .words) ws) ≡ (y .limit - n) * y .words = omega (arith, length-drop (n * y .words) ws, all-places y n most) in
+    sym (take-append-drop (n * y .words) ws)
+    ∙ rw (length-entries (y .words) n ws) (ap₂ (λ (a z : List ℕ). a ++ z) (sym (joined-entries (y .words) n ws)) (pass-zeros (drop (n * y .words) ws) none ∙ ap (λ m. replicate m 0) past))
 
 -- a sheet that is opened is the sheet of its entries
 pub sheet-opened : (y : Layout) (s : List ℕ) (k : ℕ) → Below 256 s → opened y s ≡ passed k → IsSheet y s (entriesOf y s) × (length (entriesOf y s) ≡ k)
@@ -233,11 +233,11 @@ sheet-opened y s k b e =
     let p = opened-kept y s k e in
     let h = p .0 in
     let ws = numbersIn s in
-    let size : length ws ≡ y .limit * y .size = omega (arith, length-wordsOf (drop 8 s), length-drop 8 s, h .size) in
-    let n = length-entries (y .size) (countIn s) ws in (
+    let size : length ws ≡ y .limit * y .words = omega (arith, length-wordsOf (drop 8 s), length-drop 8 s, h .size) in
+    let n = length-entries (y .words) (countIn s) ws in (
       record {
         bytes = with-parts y s b h ∙ ap₂ (sheetWith (y .version)) (sym n) (numbers-entries y (countIn s) ws (h .most) size (h .past));
-        each = entries-each y (countIn s) ws (omega (arith, mul-le-mul-right (y .size) (h .most))) (words-below (drop 8 s) (all-drop (λ x. x < 256) 8 s b));
+        each = entries-each y (countIn s) ws (omega (arith, mul-le-mul-right (y .words) (h .most))) (words-below (drop 8 s) (all-drop (λ x. x < 256) 8 s b));
         most = rw n (h .most);
       },
       n ∙ p .1,

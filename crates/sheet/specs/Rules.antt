@@ -8,7 +8,7 @@ use Rattle.sheet.specs.Sheets.{Layout, Entry, sheetOf, entriesOf}
 
 -- "entries of four 16-bit numbers", or of as many as the layout says
 pub record IsEntry (y : Layout) (e : Entry) : Type 0 where
-  pub size : length e ≡ y .size
+  pub size : length e ≡ y .words
   pub numbers : Below 65536 e
 
 -- these bytes are the sheet of these entries

@@ -15,11 +15,11 @@ use Rattle.record.specs.Judging.{passing, isZero}
 pub record Layout : Type 0 where
   pub version : ℕ
   pub limit : ℕ
-  pub size : ℕ
+  pub words : ℕ
 
 -- "a 16-bit version 1, a 16-bit count 0 to 64, ... then 64 entries of four 16-bit numbers"
 abbrev pub version1 : Layout
-version1 = record { version = 1; limit = 64; size = 4 }
+version1 = record { version = 1; limit = 64; words = 4 }
 
 -- an entry is its numbers: "record number, word number in the record, old value, new value"
 abbrev pub Entry : Type 0
@@ -27,7 +27,7 @@ Entry = List ℕ
 
 -- "520 bytes"
 abbrev pub sheetBytes : Layout → ℕ
-sheetBytes y = 8 + bytesOfWords (y .limit * y .size)
+sheetBytes y = 8 + bytesOfWords (y .limit * y .words)
 
 -- "numbers high byte first: the mark "AMD", a 16-bit version, a 16-bit count, one zero byte, then" the numbers of the entries
 unfoldable pub sheetWith : ℕ → ℕ → List ℕ → List ℕ
@@ -35,7 +35,7 @@ sheetWith version count numbers = 65 ∷ 77 ∷ 68 ∷ bytesOf (version ∷ coun
 
 -- "Entries past the count are zero"
 unfoldable pub sheetOf : Layout → List Entry → List ℕ
-sheetOf y es = sheetWith (y .version) (length es) (joined es ++ replicate ((y .limit - length es) * y .size) 0)
+sheetOf y es = sheetWith (y .version) (length es) (joined es ++ replicate ((y .limit - length es) * y .words) 0)
 
 -- a 16-bit number behind so many bytes
 abbrev pub numberAt : List ℕ → ℕ → ℕ
@@ -56,7 +56,7 @@ entries size (suc n) ws = take size ws ∷ entries size n (drop size ws)
 
 -- the entries that stand in a sheet
 unfoldable pub entriesOf : Layout → List ℕ → List Entry
-entriesOf y s = entries (y .size) (countIn s) (numbersIn s)
+entriesOf y s = entries (y .words) (countIn s) (numbersIn s)
 
 -- all of them are zero
 unfoldable pub zeros : List ℕ → Bool
@@ -70,7 +70,7 @@ wrongMark s = not (eqb (getD s 0 0) 65) || (not (eqb (getD s 1 0) 77) || not (eq
 unfoldable pub broken : Layout → List ℕ → Bool
 broken y s =
     not (eqb (length s) (sheetBytes y)) || (wrongMark s || (not (eqb (numberAt s 3) (y .version)) || (ltb (y .limit) (countIn s)
-    || (not (eqb (getD s 7 0) 0) || not (zeros (drop (countIn s * y .size) (numbersIn s)))))))
+    || (not (eqb (getD s 7 0) 0) || not (zeros (drop (countIn s * y .words) (numbersIn s)))))))
 
 -- how many amendments stand, or row 40
 unfoldable pub opened : Layout → List ℕ → Verdict ℕ

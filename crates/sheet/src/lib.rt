@@ -9,7 +9,7 @@ ghost use Prim.Native.Nat.{_+_, _*_, _≤_, _<_};
 ghost use lib.ListN.{length, getD, take, drop, replicate};
 ghost use lib.Seq.{sets};
 ghost use Rattle.units.specs.Units.{bytesOfWords};
-ghost use Rattle.units.specs.Answers.{answer, answered};
+ghost use Rattle.units.specs.Answers.{answered};
 ghost use Rattle.words.specs.Words.{bytesOf};
 ghost use Rattle.words.specs.Outcomes.{leaves};
 ghost use Rattle.sheet.specs.Sheets.{version1, sheetBytes, sheetOf, numberAt, numbersIn, entriesOf, zeros, wrongMark, broken, opened, started};
@@ -64,7 +64,7 @@ fn wrong_mark(sheet: &[u8]) -> bool
 
 // The words of a sheet before entry `i`, counted from 0: its first 8 bytes are 4 words.
 fn before_entry(i: u16) -> Words
-    ensures { λ r. ⌜ r .0 ≡ 4 + i * version1 .size ⌝ }
+    ensures { λ r. ⌜ r .0 ≡ 4 + i * version1 .words ⌝ }
 {
     Words(4 + (i as usize) * 4)
 }
@@ -72,7 +72,7 @@ fn before_entry(i: u16) -> Words
 // Something stands past the first `count` entries.
 fn more_stands(sheet: &[u8], count: u16) -> bool
     requires { ⌜ (count ≤ version1 .limit) × (length (now sheet) ≡ sheetBytes version1) ⌝ }
-    ensures { λ r. ⌜ r ≡ not (zeros (drop (count * version1 .size) (numbersIn (now (sheet .entry))))) ⌝ }
+    ensures { λ r. ⌜ r ≡ not (zeros (drop (count * version1 .words) (numbersIn (now (sheet .entry))))) ⌝ }
 {
     let rest = words::part(sheet, before_entry(count), before_entry(LIMIT));
     let clear = record::first_outside(rest, 0, 0).0;
@@ -113,25 +113,13 @@ pub fn open(sheet: &[u8]) -> Opened
     Opened::Standing(number_at(sheet, Bytes(5)))
 }
 
-// The answer of row n, with its a.
-pub fn row(n: u8, a: u16) -> Answer
-    ensures { λ r. ⌜ (r ≡ answer n a 0 0) × (r .a < 65536) ⌝ }
-{
-    Answer {
-        n,
-        a: a as u32,
-        b: 0,
-        c: 0,
-    }
-}
-
 // The four numbers of what is found of a sheet.
 pub fn numbers(o: Opened) -> Answer
     ensures { λ r. ⌜ (r ≡ answered (openedOf o)) × (r .a < 65536) ⌝ }
 {
     match o {
-        Opened::Standing(count) => row(0, count),
-        Opened::Broken => row(40, 0),
+        Opened::Standing(count) => units::row(0, count, 0, 0),
+        Opened::Broken => units::row(40, 0, 0, 0),
     }
 }
 
@@ -187,7 +175,7 @@ fn put_count(sheet: &mut [u8], count: u16)
 // Puts four numbers in place of entry `i`.
 fn put_numbers(sheet: &mut [u8], i: u16, e: Amendment)
     requires { ⌜ (i < version1 .limit) × (length (now sheet) ≡ sheetBytes version1) ⌝ }
-    ensures { λ _. ⌜ now (sheet .exit) ≡ sets (now (sheet .entry)) (8 + bytesOfWords (i * version1 .size)) (bytesOf (entryOf e)) ⌝ }
+    ensures { λ _. ⌜ now (sheet .exit) ≡ sets (now (sheet .entry)) (8 + bytesOfWords (i * version1 .words)) (bytesOf (entryOf e)) ⌝ }
 {
     let at = before_entry(i).0;
     words::put_word(sheet, Words(at), e.number);

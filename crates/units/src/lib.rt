@@ -2,7 +2,7 @@
 ghost use mathlib.Core.Path.{_≡_};
 ghost use Prim.Native.Nat.{_+_, _*_, _/_, _^_, _<_};
 ghost use Rattle.units.specs.Units.{bytesOfWords, wordsOfBytes, linesOfCards, wordsOfCards, linesOfFields, columnsOfFields, endsOfLines};
-ghost use Rattle.units.specs.Answers.{packedOf};
+ghost use Rattle.units.specs.Answers.{answer, packedOf};
 
 // A count of 16-bit words, as LTOT of a binary record.
 pub struct Words(pub usize);
@@ -74,6 +74,18 @@ pub fn lines_of_fields(w: Words) -> Lines
         return Lines(whole);
     }
     Lines(whole + 1)
+}
+
+// The answer of row n, with its other numbers; a is a word here.
+pub fn row(n: u8, a: u16, b: u16, c: u16) -> Answer
+    ensures { λ r. ⌜ (r ≡ answer n a b c) × (r .a < 65536) ⌝ }
+{
+    Answer {
+        n,
+        a: a as u32,
+        b,
+        c,
+    }
 }
 
 // The four numbers as one.

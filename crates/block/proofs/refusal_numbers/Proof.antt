@@ -7,20 +7,20 @@ use Rattle.block.proofs.refusal_numbers.Tie as tie
 enum-told : tie.Need-enum-told
 enum-told c = search needs
 
-four-requires : tie.Need-four-requires
-four-requires c κs = search needs
+row-requires : tie.Need-row-requires
+row-requires c κs = search needs
 
 enum-told-2 : tie.Need-enum-told-2
 enum-told-2 c = search needs
 
-four-requires-2 : tie.Need-four-requires-2
-four-requires-2 c κs = search needs
+row-requires-2 : tie.Need-row-requires-2
+row-requires-2 c κs = search needs
 
 enum-known-r : tie.Need-enum-known-r
 enum-known-r c = search needs
 
-four-requires-3 : tie.Need-four-requires-3
-four-requires-3 c κs = search needs
+row-requires-3 : tie.Need-row-requires-3
+row-requires-3 c κs = search needs
 
 enum-known-r-2 : tie.Need-enum-known-r-2
 enum-known-r-2 c = search needs
@@ -29,13 +29,13 @@ numbers-requires : tie.Need-numbers-requires
 numbers-requires c κs = search needs
 
 returns : tie.Need-returns
-returns c = (c .four .ensures .0 ∙ sym (ap refusalOf (c .before .enum-told .given .1)), c .four .ensures .1)
+returns c = (c .row .ensures .0 ∙ sym (ap refusalOf (c .before .enum-told .given .1)), c .row .ensures .1)
 
 returns-2 : tie.Need-returns-2
-returns-2 c = (c .four2 .ensures .0 ∙ sym (ap refusalOf (c .before .enum-told2 .given .1)), c .four2 .ensures .1)
+returns-2 c = (c .row2 .ensures .0 ∙ sym (ap refusalOf (c .before .enum-told2 .given .1)), c .row2 .ensures .1)
 
 returns-3 : tie.Need-returns-3
-returns-3 c = (c .four3 .ensures .0 ∙ sym (ap refusalOf (c .before .before .r .given .1)), c .four3 .ensures .1)
+returns-3 c = (c .row3 .ensures .0 ∙ sym (ap refusalOf (c .before .before .r .given .1)), c .row3 .ensures .1)
 
 returns-4 : tie.Need-returns-4
 returns-4 c = (c .numbers .ensures .0 ∙ sym (ap refusalOf (c .before .before .r2 .given .1)), c .numbers .ensures .1)
@@ -45,11 +45,11 @@ refusal-numbers-spec =
     tie.close
     (tie.spec
     enum-told
-    four-requires
+    row-requires
     enum-told-2
-    four-requires-2
+    row-requires-2
     enum-known-r
-    four-requires-3
+    row-requires-3
     enum-known-r-2
     numbers-requires
     returns

@@ -23,34 +23,34 @@ words-needed-requires : tie.Need-words-needed-requires
 words-needed-requires c κs = search needs
 
 -- src/lib.rt:228:21
-add-place-within : tie.Need-add-place-within
-add-place-within c = search needs
+add-is-between : tie.Need-add-is-between
+add-is-between c = search needs
 
 -- src/lib.rt:228:5
-place-within-requires : tie.Need-place-within-requires
-place-within-requires c κs = search needs
+is-between-requires : tie.Need-is-between-requires
+is-between-requires c κs = search needs
 
 -- src/lib.rt:228:59
-add-place-within-2 : tie.Need-add-place-within-2
-add-place-within-2 c = search needs
+add-is-between-2 : tie.Need-add-is-between-2
+add-is-between-2 c = search needs
 
 -- src/lib.rt:228:43
-place-within-requires-2 : tie.Need-place-within-requires-2
-place-within-requires-2 c κs = search needs
+is-between-requires-2 : tie.Need-is-between-requires-2
+is-between-requires-2 c κs = search needs
 
 -- src/lib.rt:220:1
 returns : tie.Need-returns
 returns c = let a = c .before .before .before .args in
-    let rows = within (a .lprol + a .jpar + a .jpar + a .mpar + 1) (wordsNeeded (a .lprol) (a .jpar) (a .mpar) (a .nrow)) (a .place .0) in
-    c .if1 .taken ∙ ap (λ (t : Bool). t || rows) (sym (c .if1 .taken) ∙ c .before .place-within .ensures)
+    let rows = within (a .lprol + a .jpar + a .jpar + a .mpar + 1) (wordsNeeded (a .lprol) (a .jpar) (a .mpar) (a .nrow)) (a .word .0) in
+    c .if1 .taken ∙ ap (λ (t : Bool). t || rows) (sym (c .if1 .taken) ∙ c .before .is-between .ensures)
 
 -- src/lib.rt:220:1
 returns-2 : tie.Need-returns-2
 returns-2 c = let a = c .before .before .before .before .args in
-    let rows = within (a .lprol + a .jpar + a .jpar + a .mpar + 1) (wordsNeeded (a .lprol) (a .jpar) (a .mpar) (a .nrow)) (a .place .0) in
-    c .place-within2 .ensures
-    ∙ ap (λ (n : ℕ). within (a .lprol + a .jpar + a .jpar + a .mpar + 1) n (a .place .0)) (c .before .before .before .words-needed .ensures)
-    ∙ ap (λ (t : Bool). t || rows) (sym (c .before .if1 .left) ∙ c .before .before .place-within .ensures)
+    let rows = within (a .lprol + a .jpar + a .jpar + a .mpar + 1) (wordsNeeded (a .lprol) (a .jpar) (a .mpar) (a .nrow)) (a .word .0) in
+    c .is-between2 .ensures
+    ∙ ap (λ (n : ℕ). within (a .lprol + a .jpar + a .jpar + a .mpar + 1) n (a .word .0)) (c .before .before .before .words-needed .ensures)
+    ∙ ap (λ (t : Bool). t || rows) (sym (c .before .if1 .left) ∙ c .before .before .is-between .ensures)
 
 pub among-values-spec : {M : Type 1} → statement M
 among-values-spec =
@@ -60,9 +60,9 @@ among-values-spec =
     add-values
     add-row-codes
     words-needed-requires
-    add-place-within
-    place-within-requires
-    add-place-within-2
-    place-within-requires-2
+    add-is-between
+    is-between-requires
+    add-is-between-2
+    is-between-requires-2
     returns
     returns-2)
