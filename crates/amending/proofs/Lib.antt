@@ -1,4 +1,4 @@
-pub mod Numbered
+pub mod Named
 pub mod Patched
 pub mod Located
 pub mod Steps

@@ -2,7 +2,7 @@
 use mathlib.Core.Path.{_≡_, refl, ap, _∙_}
 use mathlib.Core.Bool.{Bool, true, false, not, _||_}
 use mathlib.Core.Logic.{_⊎_, inl, inr}
-use mathlib.Core.List.{List, [], _∷_, _++_, append-assoc}
+use mathlib.Core.List.{List, [], _∷_}
 use Prim.Native.Nat.{ℕ, zero, suc, _+_, _-_, _≤_, _<_}
 use native.Mathlib.Omega.{arith}
 use borrow.Author.Tests.{eq-eqb, ne-eqb, lt-ltb}
@@ -12,17 +12,15 @@ use lib.Seq.{slice, split-at}
 use Rattle.units.specs.Choice.{if_then_else_}
 use Rattle.units.specs.Answers.{answer, passed, refused}
 use Rattle.units.specs.declared.Words.{Words}
-use Rattle.words.specs.Words.{wordsOf, joined, framed}
-use Rattle.words.proofs.Laws.{joined-append}
-use Rattle.words.proofs.Lists.{slice-part, all-at}
-use Rattle.record.specs.Rules.{RecordOk}
+use Rattle.words.specs.Words.{wordsOf, joined, Below}
 use Rattle.record.specs.Values.{isValue}
 use Rattle.block.specs.Steps.{placed}
-use Rattle.block.specs.Rules.{IsBlock}
+use Rattle.block.specs.Judging.{judged}
+use Rattle.block.specs.Records.{recordsOf}
 use Rattle.block.specs.declared.Place.the-variants.{Record, NoMore}
-use Rattle.block.proofs.Exact.{ok-long, words-are}
+use Rattle.block.proofs.Placed.{others-left, step-record, turn}
 use Rattle.amending.specs.Places.{recordIn, noRecord, valuePlace}
-use Rattle.amending.proofs.Numbered.{record-is}
+use Rattle.amending.proofs.Named.{record-is}
 
 -- ---- which record is found
 
@@ -31,7 +29,7 @@ next : (n : ℕ) → eqb (suc n) 0 ≡ false
 next n = ne-eqb (suc n) 0 (λ z. omega arith)
 
 -- none: there are not so many
-pub placed-none : (rs : List (List ℕ)) (at n : ℕ) → placed rs at n ≡ NoMore → noRecord rs n ≡ true
+placed-none : (rs : List (List ℕ)) (at n : ℕ) → placed rs at n ≡ NoMore → noRecord rs n ≡ true
 unfolding noRecord placed
 placed-none rs at n e = by (too-far rs at n e)
   where
@@ -84,31 +82,25 @@ pub record Located (b : List ℕ) (rs : List (List ℕ)) (n place size : ℕ) : 
   pub long : 16 ≤ size
   pub within : place + size < length (wordsOf b)
 
-pub located : (b : List ℕ) (rs : List (List ℕ)) → IsBlock b rs → (n : ℕ) (place size : Words) → placed rs 1 n ≡ Record place size → Located b rs n (place .0) (size .0)
-unfolding framed joined
-located b rs g n place size e =
-    let p = placed-some rs 1 n place size e in
-    let i = n - 1 in
-    let r = recordIn rs n in
-    let before = joined (take i rs) in
-    let inside : i < length rs = omega (arith, p .least, p .most) in
-    let after = joined (drop (suc i) rs) in
-    let ok = all-at RecordOk rs i [] inside (g .each) in
-    let parts : joined rs ≡ before ++ (r ++ after) = ap joined (split-at rs i [] inside) ∙ joined-append (take i rs) (r ∷ drop (suc i) rs) in
-    let x = checksum b rs g in
-    let ws : wordsOf b ≡ ((length (joined rs) + 2) ∷ before) ++ (r ++ (after ++ (x .0 ∷ []))) =
-    x .1 ∙ ap (λ l. (length (joined rs) + 2) ∷ l) (ap (λ l. l ++ (x .0 ∷ [])) parts ∙ append-assoc before (r ++ after) _ ∙ ap (λ l. before ++ l) (append-assoc r after _)) in
-    let front : place .0 ≡ length ((length (joined rs) + 2) ∷ before) = omega (arith, p .here) in
-    record {
-      there = record-is rs n (p .least) (p .most);
-      here = p .here;
-      words = rw (ws, front, p .size-is) (slice-part ((length (joined rs) + 2) ∷ before) r (after ++ (x .0 ∷ [])));
-      long = omega (arith, p .size-is, ok-long r ok);
-      within = omega (arith, p .here, p .size-is, ap length ws, length-append before (r ++ (after ++ (x .0 ∷ []))), length-append r (after ++ (x .0 ∷ [])), length-append after (x .0 ∷ []));
-    }
-  where
-    checksum : (b : List ℕ) (rs : List (List ℕ)) → IsBlock b rs → (x : ℕ) × (wordsOf b ≡ (length (joined rs) + 2) ∷ (joined rs ++ (x ∷ [])))
-    checksum b rs g = (_, words-are b rs g)
+module _ (b : List ℕ) (k : ℕ) (bytes : Below 256 b) (accepted : judged b ≡ passed k) where
+  pub located : (n : ℕ) (place size : Words) → placed (recordsOf b) 1 n ≡ Record place size → Located b (recordsOf b) n (place .0) (size .0)
+  located n place size e =
+      let rs = recordsOf b in
+      let p = placed-some rs 1 n place size e in
+      let i = n - 1 in
+      let r = recordIn rs n in
+      let split = split-at rs i [] (omega (arith, p .least, p .most)) in
+      let l = others-left b k bytes accepted (take i rs) (r ∷ drop (suc i) rs) split in
+      let step = step-record b k bytes accepted (take i rs) (drop (suc i) rs) r split in
+      let t = turn (wordsOf b) (1 + length (joined (take i rs))) (record { 0 = 1 + length (joined (take i rs)) }) (record { 0 = length r }) (r ∷ drop (suc i) rs) l step in
+      let it : t .first ≡ r = cc (t .are) in
+      record {
+        there = record-is rs n (p .least) (p .most);
+        here = p .here;
+        words = rw (p .here, p .size-is) (t .words ∙ it);
+        long = rw (p .size-is) (t .long);
+        within = rw (p .here, p .size-is) (t .within);
+      }
 
 -- ---- the place of a value
 

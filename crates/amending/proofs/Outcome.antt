@@ -30,20 +30,20 @@ module _ (y : Layout) (b s : List ℕ) (bytes : Below 256 b) (accepted : Accepte
   good : IsBlock b (recordsOf b)
   good = only-good b (accepted .count) bytes (accepted .is) .0
 
-  named : NamesValue (recordsOf b) e at
-  named = names-value (recordsOf b) e at h
+  names : NamesValue (recordsOf b) e at
+  names = names-value (recordsOf b) e at h
 
   pub spot-within : at + 1 < length (wordsOf b)
-  spot-within = value-within b (recordsOf b) good e at named
+  spot-within = value-within b (recordsOf b) good e at names
 
   module _ (w : ℕ) (stands : w ≡ getD (wordsOf b) at 0) where
     stands-found : w ≡ found (recordsOf b) e
-    stands-found = stands ∙ value-found b (recordsOf b) good e at named
+    stands-found = stands ∙ value-found b (recordsOf b) good e at names
 
     pub amend-other : (oldValue e ≡ w → ⊥) → length (entriesOf y s) < y .limit
         → buffers (answer 43 w 0 0) b s ≡ doing y (amendable y e) b s
     amend-other n room =
-        let q = amend-differs y e (recordsOf b) (entriesOf y s) room (named .there) (named .value) (λ z. n (z ∙ sym stands-found)) in
+        let q = amend-differs y e (recordsOf b) (entriesOf y s) room (names .named) (λ z. n (z ∙ sym stands-found)) in
         refusal-leaves y b s (answer 43 w 0 0) _ (q ∙ ap (λ x. refused (answer 43 x 0 0)) (sym stands-found))
 
     pub amend-done : {b′ s′ : List ℕ} (count : ℕ) → oldValue e ≡ w → count ≡ length (entriesOf y s) → count < y .limit
@@ -52,11 +52,11 @@ module _ (y : Layout) (b s : List ℕ) (bytes : Below 256 b) (accepted : Accepte
     amend-done count o n room eb es =
         let q : oldValue e ≡ found (recordsOf b) e = o ∙ stands-found in
         let k : count + 1 ≡ length (entriesOf y s ++ e ∷ []) = omega (arith, n, length-append (entriesOf y s) (e ∷ [])) in
-        rw (amend-passes y e (recordsOf b) (entriesOf y s) (omega arith) (named .there) (named .value) q, eb, es, q, value-put b (recordsOf b) good e at named (newValue e), k)
+        rw (amend-passes y e (recordsOf b) (entriesOf y s) (omega arith) (names .named) q, eb, es, q, value-put b (recordsOf b) good e at names (newValue e), k)
 
     module _ (last : lastOf (entriesOf y s) ≡ e) (left : ℕ) (n : left + 1 ≡ length (entriesOf y s)) where
       pub undo-other : (newValue e ≡ w → ⊥) → buffers (answer 46 0 0 0) b s ≡ doing y undoable b s
-      undo-other d = refusal-leaves y b s (answer 46 0 0 0) _ (undo-differs (recordsOf b) (entriesOf y s) (omega arith) at (rw last named) (rw last (λ z. d (z ∙ sym stands-found))))
+      undo-other d = refusal-leaves y b s (answer 46 0 0 0) _ (undo-differs (recordsOf b) (entriesOf y s) (omega arith) (rw last (names .named)) (rw last (λ z. d (z ∙ sym stands-found))))
 
       pub undo-done : {b′ s′ : List ℕ} → newValue e ≡ w → b′ ≡ patched b at (newValue e) (oldValue e) → s′ ≡ sheetOf y (take left (entriesOf y s))
           → buffers (answer 0 left 0 0) b′ s′ ≡ doing y undoable b s
@@ -64,7 +64,7 @@ module _ (y : Layout) (b s : List ℕ) (bytes : Below 256 b) (accepted : Accepte
           let q : newValue e ≡ found (recordsOf b) e = o ∙ stands-found in
           let l : length (entriesOf y s) - 1 ≡ left = omega (arith, n) in
           let k : length (take left (entriesOf y s)) ≡ left = length-take-le left (entriesOf y s) (omega (arith, n)) in
-          rw (undo-standing (recordsOf b) (entriesOf y s) (omega arith) (rw last (it-stands (recordsOf b) e (named .there) (named .value) q)), last, l, eb, es, q, value-put b (recordsOf b) good e at named (oldValue e), k)
+          rw (undo-standing (recordsOf b) (entriesOf y s) (omega arith) (rw last (it-stands (recordsOf b) e (names .named) q)), last, l, eb, es, q, value-put b (recordsOf b) good e at names (oldValue e), k)
 
 -- ---- what the look at block and sheet has found
 

@@ -1,6 +1,6 @@
 -- A value put into a block: the checksum patched with the old and the new word is the one worked out afresh.
 use mathlib.Core.Path.{_≡_, sym, ap, ap₂, _∙_}
-use mathlib.Core.Bool.{true, false, not}
+use mathlib.Core.Bool.{not}
 use mathlib.Core.List.{List, [], _∷_, _++_}
 use Prim.Native.Nat.{ℕ, suc, _+_, _-_, _<_}
 use native.Mathlib.Omega.{arith}
@@ -11,18 +11,16 @@ use lib.Seq.{set-append-left, set-at, getD-append-seam}
 use Rattle.units.specs.Answers.{passed}
 use Rattle.units.proofs.Verdicts.{else-passed}
 use Rattle.words.specs.Words.{wordsOf, bytesOf, xorAll, joined, framed}
-use Rattle.words.proofs.Lists.{all-at}
 use Rattle.words.proofs.Joined.{joined-room, getD-joined, set-joined}
 use Rattle.words.proofs.Stores.{bytes-sets}
 use Rattle.words.proofs.Xor.{fold-patched}
-use Rattle.record.specs.Rules.{RecordOk}
 use Rattle.record.specs.Values.{isValue}
-use Rattle.record.proofs.Values.{ValueAt, value-at}
+use Rattle.record.proofs.Values.{ValueAt}
 use Rattle.block.specs.Rules.{blockOf, IsBlock}
 use Rattle.block.proofs.Exact.{frame-of, words-are}
 use Rattle.sheet.specs.Sheets.{Entry}
 use Rattle.amending.specs.Places.{recordNumber, wordNumber, recordIn, noRecord, found, valuePlace, withValue, patched}
-use Rattle.amending.proofs.Numbered.{is-record}
+use Rattle.amending.proofs.Named.{is-record, Named, named-inside, named-value}
 
 -- ---- a word of a frame
 
@@ -47,8 +45,7 @@ module _ (ws : List ℕ) (k : ℕ) (h : k < length ws) where
 
 -- an entry names a value, with so many words of the block before it
 pub record NamesValue (rs : List (List ℕ)) (e : Entry) (at : ℕ) : Type 0 where
-  pub there : noRecord rs (recordNumber e) ≡ false
-  pub value : isValue (recordIn rs (recordNumber e)) (wordNumber e) ≡ true
+  pub named : Named rs e
   pub place : at ≡ length (joined (take (recordNumber e - 1) rs)) + wordNumber e
 
 -- so it does where its place was found
@@ -57,15 +54,15 @@ unfolding valuePlace
 names-value rs e at q =
     let a = else-passed (noRecord rs (recordNumber e)) _ _ at q in
     let c = else-passed (not (isValue (recordIn rs (recordNumber e)) (wordNumber e))) _ _ at (a .1) in
-    record { there = a .0; value = not-false _ (c .0); place = cc (c .1) }
+    let n = is-record rs (recordNumber e) (a .0) in
+    record { named = record { least = n .0; most = n .1; value = not-false _ (c .0) }; place = cc (c .1) }
 
 module _ (b : List ℕ) (rs : List (List ℕ)) (g : IsBlock b rs) (e : Entry) (at : ℕ) (h : NamesValue rs e at) where
   there : recordNumber e - 1 < length rs
-  there = let n = is-record rs (recordNumber e) (h .there) in omega (arith, n .0, n .1)
+  there = named-inside rs e (h .named)
 
   stands-at : ValueAt (recordIn rs (recordNumber e)) (wordNumber e)
-  stands-at =
-      value-at (recordIn rs (recordNumber e)) (wordNumber e) (all-at RecordOk rs (recordNumber e - 1) [] there (g .each)) (h .value)
+  stands-at = named-value rs e (h .named) (g .each)
 
   room : wordNumber e - 1 < length (recordIn rs (recordNumber e))
   room = omega (arith, stands-at)

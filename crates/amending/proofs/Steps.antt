@@ -16,7 +16,7 @@ use Rattle.record.specs.Values.{isValue}
 use Rattle.sheet.specs.Sheets.{Layout, Entry}
 use Rattle.amending.specs.Places.{recordNumber, wordNumber, oldValue, newValue, recordIn, noRecord, found, valuePlace, withValue, stands}
 use Rattle.amending.specs.Amending.{both, amendable, undoable, lastOf, othersOf}
-use Rattle.amending.proofs.Patched.{NamesValue}
+use Rattle.amending.proofs.Named.{Named, named-there}
 
 -- there is no such record, or no such value in it
 abbrev NoPlace : List (List ℕ) → ℕ → ℕ → Answer → Type 0
@@ -49,14 +49,14 @@ module _ (y : Layout) (e : Entry) (rs : List (List ℕ)) (es : List Entry) where
         by (inl n) = simp (lt-leb (y .limit) (length es) room, n .0, n .1)
         by (inr n) = simp (lt-leb (y .limit) (length es) room, n .0, n .1, n .2)
 
-    module _ (there : noRecord rs (recordNumber e) ≡ false) (value : isValue (recordIn rs (recordNumber e)) (wordNumber e) ≡ true) where
+    module _ (p : Named rs e) where
       pub amend-differs : (oldValue e ≡ found rs e → ⊥) → amendable y e (both rs es) ≡ refused (answer 43 (found rs e) 0 0)
       unfolding amendable
-      amend-differs n = simp (lt-leb (y .limit) (length es) room, there, value, ne-eqb (oldValue e) (found rs e) n)
+      amend-differs n = simp (lt-leb (y .limit) (length es) room, named-there rs e p, p .value, ne-eqb (oldValue e) (found rs e) n)
 
       pub amend-passes : oldValue e ≡ found rs e → amendable y e (both rs es) ≡ passed (both (withValue rs e (newValue e)) (es ++ e ∷ []))
       unfolding amendable
-      amend-passes q = simp (lt-leb (y .limit) (length es) room, there, value, eq-eqb (oldValue e) (found rs e) q)
+      amend-passes q = simp (lt-leb (y .limit) (length es) room, named-there rs e p, p .value, eq-eqb (oldValue e) (found rs e) q)
 
 -- ---- undo
 
@@ -83,12 +83,11 @@ module _ (rs : List (List ℕ)) (es : List Entry) where
         by (inl n) = simp (n .0)
         by (inr n) = simp (n .0, n .1)
 
-    pub undo-differs : (at : ℕ) → NamesValue rs (lastOf es) at → (newValue (lastOf es) ≡ found rs (lastOf es) → ⊥) → undoable (both rs es) ≡ refused (answer 46 0 0 0)
+    pub undo-differs : Named rs (lastOf es) → (newValue (lastOf es) ≡ found rs (lastOf es) → ⊥) → undoable (both rs es) ≡ refused (answer 46 0 0 0)
     unfolding stands
-    undo-differs at h n = undo-not-standing (simp (h .there, h .value, ne-eqb (newValue (lastOf es)) (found rs (lastOf es)) n))
+    undo-differs p n = undo-not-standing (simp (named-there rs (lastOf es) p, p .value, ne-eqb (newValue (lastOf es)) (found rs (lastOf es)) n))
 
 -- an entry stands where it names a value and its new value is found there
-pub it-stands : (rs : List (List ℕ)) (e : Entry) → noRecord rs (recordNumber e) ≡ false → isValue (recordIn rs (recordNumber e)) (wordNumber e) ≡ true → newValue e ≡ found rs e
-    → stands rs e ≡ true
+pub it-stands : (rs : List (List ℕ)) (e : Entry) → Named rs e → newValue e ≡ found rs e → stands rs e ≡ true
 unfolding stands
-it-stands rs e there value q = simp (there, value, eq-eqb (newValue e) (found rs e) q)
+it-stands rs e p q = simp (named-there rs e p, p .value, eq-eqb (newValue e) (found rs e) q)

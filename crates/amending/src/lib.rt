@@ -6,15 +6,13 @@ use sheet::Opened;
 use units::Answer;
 use units::Words;
 ghost use mathlib.Core.Path.{_≡_};
-ghost use mathlib.Core.List.{[], _∷_};
+ghost use mathlib.Core.List.{[]};
 ghost use Prim.Native.Nat.{_+_, _-_, _≤_, _<_};
-ghost use lib.Bits.{bitXor};
 ghost use lib.ListN.{length, getD};
-ghost use lib.Seq.{sets, slice};
+ghost use lib.Seq.{slice};
 ghost use Rattle.units.specs.Choice.{if_then_else_};
-ghost use Rattle.units.specs.Units.{bytesOfWords};
 ghost use Rattle.units.specs.Answers.{answer, answered, passed, refused, onward};
-ghost use Rattle.words.specs.Words.{wordsOf, bytesOf};
+ghost use Rattle.words.specs.Words.{wordsOf};
 ghost use Rattle.record.specs.Values.{isValue};
 ghost use Rattle.block.specs.Judging.{judged, Accepted};
 ghost use Rattle.block.specs.Records.{recordsOf};
@@ -59,10 +57,10 @@ fn value_in(block: &[u8], at: Words, size: Words, word: u16) -> Spot
     let start = at.0;
     let count = size.0;
     let end = start + count;
-    let place = units::words_said(word);
-    let w = place.0;
+    let number = units::words_said(word);
+    let w = number.0;
     let before = start + w - 1;
-    if record::is_value(words::part(block, at, Words(end)), place) {
+    if record::is_value(words::part(block, at, Words(end)), number) {
         return Spot::Value(Words(before));
     }
     Spot::NoValue

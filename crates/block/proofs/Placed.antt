@@ -167,12 +167,16 @@ module _ (b : List ℕ) (k : ℕ) (bytes : Below 256 b) (accepted : judged b ≡
   pub all-left : Left (wordsOf b) 1 (recordsOf b)
   all-left = record { each = good .each; checksum = stand .0; stand = stand .1 }
 
+  -- and behind some of them the others
+  pub others-left : (before after : List (List ℕ)) → recordsOf b ≡ before ++ after → Left (wordsOf b) (1 + length (joined before)) after
+  others-left before after e =
+      let s = stand in
+      record { each = all-after before after (rw e at (good .each)); checksum = s .0; stand = steps (wordsOf b) (s .0) before 1 after (rw e at (s .1)) }
+
   pub step-record : (before after : List (List ℕ)) (r : List ℕ) → recordsOf b ≡ before ++ r ∷ after
       → stepOf (wordsOf b) (1 + length (joined before)) ≡ recordAt (1 + length (joined before)) (length r)
   step-record before after r e =
-      let s = stand in
-      let h = all-after before (r ∷ after) (rw e at (good .each)) in
-      stands-one (wordsOf b) (1 + length (joined before)) (s .0) r after (h .0) (steps (wordsOf b) (s .0) before 1 (r ∷ after) (rw e at (s .1)))
+      let l = others-left before (r ∷ after) e in stands-one (wordsOf b) (1 + length (joined before)) (l .checksum) r after (l .each .0) (l .stand)
 
   pub step-no-more : stepOf (wordsOf b) (1 + length (joined (recordsOf b))) ≡ NoMore
   step-no-more =

@@ -15,7 +15,7 @@ use Rattle.record.proofs.Passed.{passed-room}
 use Rattle.block.specs.Judging.{walk}
 
 -- words that are skipped are as good as gone
-pub walk-drop : (skip n : ℕ) (ws : List ℕ) → walk skip n ws ≡ walk 0 n (drop skip ws)
+walk-drop : (skip n : ℕ) (ws : List ℕ) → walk skip n ws ≡ walk 0 n (drop skip ws)
 unfolding walk
 walk-drop skip n [] = rw drop-nil
 walk-drop zero n (w ∷ ws) = refl

@@ -75,7 +75,7 @@ unfolding linesIn onto endLength lineLength lineStep
 split b [] = cases b [] refl (eqb b 10) (eqb b 13 && eqb 0 10) refl refl
 split b (x ∷ t) = cases b (x ∷ t) (ap (onto b) (split x t)) (eqb b 10) (eqb b 13 && eqb x 10) refl refl
 
-pub cut-at : (t : List ℕ) (at end next : ℕ) → at < length t → end ≡ at + lineLength (drop at t) → next ≡ at + lineStep (drop at t) →
+cut-at : (t : List ℕ) (at end next : ℕ) → at < length t → end ≡ at + lineLength (drop at t) → next ≡ at + lineStep (drop at t) →
     linesIn (drop at t) ≡ take (end - at) (drop at t) ∷ linesIn (drop next t)
 cut-at t at end next h e n =
     let k : Split (drop at t) = rw (drop-next t at h) (split (getD t at 0) (drop (at + 1) t)) in
@@ -102,7 +102,7 @@ plain-skip (b ∷ t) = by (within 32 126 b) refl (plain-skip t)
     by false e ih = (omega arith, omega arith)
 
 -- as many bytes do
-pub plain-take : (m : ℕ) (l : List ℕ) → plainIn l ≤ m → plainIn (take m l) ≡ plainIn l
+plain-take : (m : ℕ) (l : List ℕ) → plainIn l ≤ m → plainIn (take m l) ≡ plainIn l
 unfolding passing
 plain-take zero [] h = refl
 plain-take zero (b ∷ t) h = omega arith

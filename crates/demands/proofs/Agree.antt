@@ -1,12 +1,20 @@
 -- The promises agree.
 use mathlib.Core.Path.{_≡_, refl, sym, ap, _∙_}
-use Prim.Native.Nat.{ℕ}
+use mathlib.Core.Bool.{false}
+use mathlib.Core.Logic.{_⊎_, inl, inr}
+use native.Mathlib.Omega.{arith}
+use borrow.Author.Tests.{ne-eqb}
+use Prim.Native.Nat.{ℕ, _≤_}
 use lib.Dec.{eqb}
 use Rattle.units.specs.Choice.{if_then_else_}
 use Rattle.units.specs.declared.Answer.{Answer}
 use Rattle.units.specs.declared.Lines.{Lines}
 use Rattle.units.specs.declared.Bytes.{Bytes}
 use Rattle.units.specs.Answers.{Verdict, passed, refused, answered}
+use Rattle.words.specs.Outcomes.{Written}
+use Rattle.lines.specs.Text.{toLines}
+use Rattle.text.specs.Block.{toBlock}
+use Rattle.sheet.specs.Sheets.{version1, started}
 use Rattle.record.specs.declared.Fault.the-variants.{Short, Kind, Total, NotZero, Card, Counts}
 use Rattle.block.specs.declared.Judged.{Judged}
 use Rattle.block.specs.declared.Judged.the-variants.{Records, Refused}
@@ -35,7 +43,7 @@ use Rattle.amending.specs.declared.Amended.the-variants as amending
 use Rattle.amending.specs.declared.Refusal.the-variants as rows
 use Rattle.amending.specs.Cases.{amendedOf}
 use Rattle.amending.specs.Amending.{Outcome}
-use Rattle.demands.specs.Agree.{JudgeAgrees, CedarJudgeAgrees, StepAgrees, FindAgrees, PrefixAgrees, CedarPrefixAgrees, LinesAgree, CedarLinesAgree, ContentAgrees, BlockAgrees, CedarBlockAgrees}
+use Rattle.demands.specs.Agree.{JudgeAgrees, CedarJudgeAgrees, StepAgrees, FindAgrees, PrefixAgrees, CedarPrefixAgrees, WrittenAgree, CedarWrittenAgree, LinesAgree, CedarLinesAgree, ContentAgrees, BlockAgrees, CedarBlockAgrees}
 use Rattle.demands.specs.Agree.{OpenAgrees, StartAgrees, BothAgree, AmendAgrees, UndoAgrees, CedarStartAgrees, CedarBothAgree, CedarAmendAgrees, CedarUndoAgrees}
 
 -- the case that a refusal's numbers tell
@@ -62,6 +70,26 @@ refusal-back (Record (Total k)) = refl
 refusal-back (Record (NotZero k w)) = refl
 refusal-back (Record (Card k w)) = refl
 refusal-back (Record (Counts k w)) = refl
+
+-- its number is one of the block's
+refusal-low : (r : Refusal) → (1 ≤ refusalOf r .n) × (refusalOf r .n ≤ 9)
+refusal-low Size = (omega arith, omega arith)
+refusal-low WordCount = (omega arith, omega arith)
+refusal-low (Checksum bits) = (omega arith, omega arith)
+refusal-low (Record (Short k)) = (omega arith, omega arith)
+refusal-low (Record (Kind k)) = (omega arith, omega arith)
+refusal-low (Record (Total k)) = (omega arith, omega arith)
+refusal-low (Record (NotZero k w)) = (omega arith, omega arith)
+refusal-low (Record (Card k w)) = (omega arith, omega arith)
+refusal-low (Record (Counts k w)) = (omega arith, omega arith)
+
+-- so it is no other number
+other : (r : Refusal) (m : ℕ) → (m ≡ 0) ⊎ (10 ≤ m) → eqb (refusalOf r .n) m ≡ false
+other r m h = ne-eqb (refusalOf r .n) m (λ e. by h e)
+  where
+    by : (m ≡ 0) ⊎ (10 ≤ m) → refusalOf r .n ≡ m → ⊥
+    by (inl z) e = omega (arith, refusal-low r .0)
+    by (inr k) e = omega (arith, refusal-low r .1)
 
 judgedCase : Verdict ℕ → Judged
 judgedCase (passed k) = Records k
@@ -99,24 +127,23 @@ linedCase : Answer → Lined
 linedCase r = if eqb (r .n) 0 then Text (record { 0 = r .a }) else if eqb (r .n) 29 then lines.Short (record { 0 = r .a }) else lines.Refused (refusalCase r)
 
 lined-back : (l : Lined) → linedCase (linedOf l) ≡ l
-unfolding linedCase refusalCase
+unfolding linedCase
 lined-back (Text size) = refl
 lined-back (lines.Short size) = refl
-lined-back (lines.Refused Size) = refl
-lined-back (lines.Refused WordCount) = refl
-lined-back (lines.Refused (Checksum bits)) = refl
-lined-back (lines.Refused (Record (Short k))) = refl
-lined-back (lines.Refused (Record (Kind k))) = refl
-lined-back (lines.Refused (Record (Total k))) = refl
-lined-back (lines.Refused (Record (NotZero k w))) = refl
-lined-back (lines.Refused (Record (Card k w))) = refl
-lined-back (lines.Refused (Record (Counts k w))) = refl
+lined-back (lines.Refused r) = simp (other r 0 (inl refl), other r 29 (inr (omega arith))) (ap lines.Refused (refusal-back r))
+
+-- the answer's numbers tell its case, so outcomes agree on it, and on the buffer
+written-agree : {R : Type 0} (of : R → Answer) (case : Answer → R) → ((r : R) → case (of r) ≡ r) → (o : Written) → WrittenAgree of o
+written-agree of case back o r s t u p q = let e = same p q in (sym (back r) ∙ ap (λ w. case (w .answer)) e ∙ back s, ap (λ w. w .out) e)
+
+cedar-written-agree : (o : Written) → CedarWrittenAgree o
+cedar-written-agree o r s t u p q = let e = same p q in (ap (λ w. w .number) e, ap (λ w. w .out) e)
 
 pub lines-agree : LinesAgree
-lines-agree block text r s t u p q = let e = same p q in (sym (lined-back r) ∙ ap (λ w. linedCase (w .answer)) e ∙ lined-back s, ap (λ w. w .out) e)
+lines-agree block text = written-agree linedOf linedCase lined-back (toLines block text)
 
 pub cedar-lines-agree : CedarLinesAgree
-cedar-lines-agree block text r s t u p q = let e = same p q in (ap (λ w. w .number) e, ap (λ w. w .out) e)
+cedar-lines-agree block text = cedar-written-agree (toLines block text)
 
 -- the case that the numbers of lines to block tell
 blockedCase : Answer → Blocked
@@ -170,10 +197,10 @@ pub content-agrees : ContentAgrees
 content-agrees text r s p q = sym (content-back r) ∙ ap contentCase (same p q) ∙ content-back s
 
 pub block-agrees : BlockAgrees
-block-agrees text block r s b c p q = let e = same p q in (sym (blocked-back r) ∙ ap (λ w. blockedCase (w .answer)) e ∙ blocked-back s, ap (λ w. w .out) e)
+block-agrees text block = written-agree blockedOf blockedCase blocked-back (toBlock text block)
 
 pub cedar-block-agrees : CedarBlockAgrees
-cedar-block-agrees text block r s b c p q = let e = same p q in (ap (λ w. w .number) e, ap (λ w. w .out) e)
+cedar-block-agrees text block = cedar-written-agree (toBlock text block)
 
 -- the case that the numbers of a sheet tell
 openedCase : Answer → Opened
@@ -188,10 +215,10 @@ pub open-agrees : OpenAgrees
 open-agrees sheet r s p q = sym (opened-back r) ∙ ap (λ v. openedCase (answered v)) (same p q) ∙ opened-back s
 
 pub start-agrees : StartAgrees
-start-agrees sheet r s t u p q = let e = same p q in (sym (opened-back r) ∙ ap (λ w. openedCase (w .answer)) e ∙ opened-back s, ap (λ w. w .out) e)
+start-agrees sheet = written-agree (λ (o : Opened). answered (openedOf o)) openedCase opened-back (started version1 sheet)
 
 pub cedar-start-agrees : CedarStartAgrees
-cedar-start-agrees sheet r s t u p q = let e = same p q in (ap (λ w. w .number) e, ap (λ w. w .out) e)
+cedar-start-agrees sheet = cedar-written-agree (started version1 sheet)
 
 -- the case that the numbers of amend and undo tell
 amendedCase : Answer → Amended
@@ -207,7 +234,7 @@ amendedCase r =
     else amending.Refused (rows.Block (refusalCase r))
 
 amended-back : (a : Amended) → amendedCase (answered (amendedOf a)) ≡ a
-unfolding amendedCase refusalCase
+unfolding amendedCase
 amended-back (amending.Standing count) = refl
 amended-back (amending.Refused rows.Broken) = refl
 amended-back (amending.Refused rows.NoRecord) = refl
@@ -216,15 +243,10 @@ amended-back (amending.Refused (rows.Differs found)) = refl
 amended-back (amending.Refused rows.Full) = refl
 amended-back (amending.Refused rows.Empty) = refl
 amended-back (amending.Refused rows.NotStanding) = refl
-amended-back (amending.Refused (rows.Block Size)) = refl
-amended-back (amending.Refused (rows.Block WordCount)) = refl
-amended-back (amending.Refused (rows.Block (Checksum bits))) = refl
-amended-back (amending.Refused (rows.Block (Record (Short k)))) = refl
-amended-back (amending.Refused (rows.Block (Record (Kind k)))) = refl
-amended-back (amending.Refused (rows.Block (Record (Total k)))) = refl
-amended-back (amending.Refused (rows.Block (Record (NotZero k w)))) = refl
-amended-back (amending.Refused (rows.Block (Record (Card k w)))) = refl
-amended-back (amending.Refused (rows.Block (Record (Counts k w)))) = refl
+amended-back (amending.Refused (rows.Block r)) =
+    let far : (m : ℕ) → 10 ≤ m → eqb (refusalOf r .n) m ≡ false = λ m h. other r m (inr h) in
+    simp (other r 0 (inl refl), far 40 (omega arith), far 41 (omega arith), far 42 (omega arith), far 43 (omega arith), far 44 (omega arith), far 45 (omega arith), far 46 (omega arith))
+    (ap (λ b. amending.Refused (rows.Block b)) (refusal-back r))
 
 both-agree : (o : Outcome) → BothAgree o
 both-agree o r s b c x y p q =

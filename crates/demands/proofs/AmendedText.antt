@@ -19,9 +19,10 @@ use Rattle.lines.specs.Text.{textOf}
 use Rattle.lines.specs.Columns.{columnsBefore}
 use Rattle.sheet.specs.Sheets.{Entry}
 use Rattle.amending.specs.Places.{recordNumber, newValue, found, withValue}
+use Rattle.amending.proofs.Named.{Named, named-inside}
 use Rattle.demands.specs.Demand3.{putIn, bytesBefore, Outside}
 use Rattle.demands.proofs.Lines.{six-columns, columns-inside, word-stands}
-use Rattle.demands.proofs.Values.{Named, Steady, Alike, its, recordsBefore, wordsBefore, steady-columns, inside, named-word, alike-count, alike-record, alike-named}
+use Rattle.demands.proofs.Values.{Steady, Alike, its, recordsBefore, wordsBefore, steady-columns, named-word, alike-count, alike-record, alike-named}
 use Rattle.demands.proofs.Stack.{Stack, put-good, put-alike, total, putIn-good, putIn-alike, stack-named}
 
 -- ---- where the columns are
@@ -59,13 +60,13 @@ module _ (rs ss : List (List ℕ)) (alike : Alike rs ss) where
 module _ (rs : List (List ℕ)) (e : Entry) (good : All RecordOk rs) (p : Named rs e) where
   -- the records around it
   around : rs ≡ take (recordsBefore e) rs ++ its rs e ∷ drop (suc (recordsBefore e)) rs
-  around = split-at rs (recordsBefore e) [] (inside rs e good p)
+  around = split-at rs (recordsBefore e) [] (named-inside rs e p)
 
   text-amended : (v : ℕ) → textOf (withValue rs e v) ≡ sets (textOf rs) (bytesBefore rs e) (fieldOf v)
   unfolding withValue
   text-amended v =
       let w = named-word rs e good p in
-      ap textOf (set-split rs (recordsBefore e) (set (its rs e) (wordsBefore e) v) (inside rs e good p))
+      ap textOf (set-split rs (recordsBefore e) (set (its rs e) (wordsBefore e) v) (named-inside rs e p))
       ∙ six-columns (take (recordsBefore e) rs) (drop (suc (recordsBefore e)) rs) (its rs e) (w .ok) (w .kind) (wordsBefore e) v (w .low) (w .high)
       ∙ ap (λ l. sets (textOf l) (bytesBefore rs e) (fieldOf v)) (sym around)
 

@@ -1,4 +1,5 @@
 -- The first line of a good record is read, by the record's kind, in any spelling.
+use Rattle.record.proofs.Values.{is-data}
 use mathlib.Core.Path.{_≡_, refl, sym, ap, ap₂, _∙_}
 use mathlib.Core.List.{List, [], _∷_, _++_, map}
 use Prim.Native.Nat.{ℕ, suc, _+_, _-_, _*_, _≤_, _<_, min}
@@ -14,7 +15,7 @@ use Rattle.record.specs.Rules.{CardsOk, DataOk, KindOk, catalogue, header, data
 use Rattle.record.proofs.Passed.{least-at}
 use Rattle.laying.specs.Laying.{Line}
 use Rattle.lines.specs.Lines.{dataPlan, kindShown}
-use Rattle.lines.proofs.Sizes.{is-cards, is-data, data-count}
+use Rattle.lines.proofs.Sizes.{is-cards, data-count}
 use Rattle.heading.specs.Heading.{card, fields, gives, cardsLine, countsIn, planLine, catalogueLine, headerFields, headerLine, countFields, prologueFields, dataLine, kindLine, firstLine}
 use Rattle.reading.specs.Reading.{inState}
 use Rattle.text.specs.Spelled.{Blanks, SpellsAll, CardsSpelled}

@@ -1,4 +1,5 @@
 -- The promises of the text hold.
+use Rattle.record.proofs.Values.{is-data}
 use mathlib.Core.Path.{_≡_, refl, sym, ap, ap₂, _∙_}
 use mathlib.Core.Bool.{Bool, true, false}
 use mathlib.Core.List.{List, [], _∷_, _++_, append-assoc, append-nil}
@@ -22,7 +23,7 @@ use Rattle.laying.proofs.Turns.{length-fieldsOf, fieldsIn}
 use Rattle.lines.specs.Lines.{dataPlan, shown, linesOf}
 use Rattle.lines.specs.Text.{textOf}
 use Rattle.lines.specs.Columns.{endsBefore, columnsBefore}
-use Rattle.lines.proofs.Sizes.{sized, text-bound, data-count, data-size, data-lines, cards-lines, is-data, data-is, length-plan, fieldsIn-plan}
+use Rattle.lines.proofs.Sizes.{sized, text-bound, data-count, data-size, data-lines, cards-lines, data-is, length-plan, fieldsIn-plan}
 use Rattle.demands.specs.Lines.{LineCount, LineWidth, TextBound, TextReached, SixColumns, WordStands}
 
 pub line-count : LineCount

@@ -19,10 +19,10 @@ use Rattle.sheet.specs.Sheets.{Layout, Entry}
 use Rattle.sheet.specs.Rules.{IsEntry}
 use Rattle.amending.specs.Places.{recordNumber, wordNumber, oldValue, newValue, recordIn, noRecord, noValue, found, withValue, stands}
 use Rattle.amending.specs.Amending.{Both, both, amendable, lastOf, othersOf, undoable}
-use Rattle.amending.proofs.Numbered.{is-record, record-is}
+use Rattle.amending.proofs.Named.{is-record, Named}
 use Rattle.amending.proofs.Steps.{amend-passes, undo-standing, it-stands}
 use Rattle.demands.specs.Demand3.{putIn, Accepts}
-use Rattle.demands.proofs.Values.{Named, Alike, amended-alike, amended-found, put-back, alike-count, alike-value, alike-named}
+use Rattle.demands.proofs.Values.{Alike, amended-alike, amended-found, put-back, alike-count, alike-value, alike-named}
 use Rattle.demands.proofs.Stack.{Stack, putIn-append, stack-append, stack-parts, putIn-good, putIn-alike}
 
 -- a stack that calls can reach: entries of the layout, no more than it has room for, each one put in
@@ -55,6 +55,10 @@ module _ (y : Layout) (rs : List (List ℕ)) (es : List Entry) (good : All Recor
           old = sym old;
         }
 
+    -- it names a value of the records as they are
+    named : Accepts y rs es e → Named ps e
+    named a = alike-named rs ps alike e (record { least = a .record-is .0; most = a .record-is .1; value = a .value })
+
     -- it is refused, or it is an amendment and stands last
     pub amend-either : (P : Verdict Both → Type 0) → ((n a : ℕ) → 0 < n → P (refused (answer n a 0 0)))
         → (Accepts y rs es e → P (passed (both (withValue ps e (newValue e)) (es ++ e ∷ [])))) → P (amendable y e (both ps es))
@@ -68,9 +72,7 @@ module _ (y : Layout) (rs : List (List ℕ)) (es : List Entry) (good : All Recor
 
     -- an amendment is not refused
     pub amend-accepted : Accepts y rs es e → amendable y e (both ps es) ≡ passed (both (withValue ps e (newValue e)) (es ++ e ∷ []))
-    amend-accepted a =
-        let has = record-is ps (recordNumber e) (a .record-is .0) (omega (arith, a .record-is .1, alike-count rs ps alike)) in
-        amend-passes y e ps es (a .room) has (alike-value rs ps alike (recordNumber e) (wordNumber e) ∙ a .value) (sym (a .old))
+    amend-accepted a = amend-passes y e ps es (a .room) (named a) (sym (a .old))
 
     -- and the stack can be reached with it
     pub reached-on : IsEntry y e → Accepts y rs es e → Reached y rs (es ++ e ∷ [])
@@ -78,11 +80,8 @@ module _ (y : Layout) (rs : List (List ℕ)) (es : List Entry) (good : All Recor
         record {
           each = all-append (IsEntry y) es (e ∷ []) (h .each) (is, tt);
           most = omega (arith, a .room, length-append es (e ∷ []));
-          stack = stack-append rs es (e ∷ []) (h .stack) (record { named = named; old = a .old; new = getD-below 65536 e 3 (omega arith) (is .numbers) }, tt);
+          stack = stack-append rs es (e ∷ []) (h .stack) (record { named = named a; old = a .old; new = getD-below 65536 e 3 (omega arith) (is .numbers) }, tt);
         }
-      where
-        named : Named ps e
-        named = alike-named rs ps alike e (record { least = a .record-is .0; most = a .record-is .1; value = a .value })
 
 -- ---- undo
 
@@ -91,7 +90,7 @@ new-stands : (rs : List (List ℕ)) (e : Entry) → All RecordOk rs → Named rs
 new-stands rs e good p =
     let v = newValue e in
     let n = alike-named rs (withValue rs e v) (amended-alike rs e good p v) e p in
-    it-stands (withValue rs e v) e (record-is (withValue rs e v) (recordNumber e) (n .least) (n .most)) (n .value) (sym (amended-found rs e good p v))
+    it-stands (withValue rs e v) e n (sym (amended-found rs e good p v))
 
 -- where an entry stands last, the others are those before it
 module _ (before : List Entry) (e : Entry) where

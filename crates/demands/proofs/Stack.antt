@@ -10,8 +10,9 @@ use Rattle.record.specs.Rules.{RecordOk}
 use Rattle.block.specs.Rules.{blockOf, IsBlock}
 use Rattle.sheet.specs.Sheets.{Entry}
 use Rattle.amending.specs.Places.{oldValue, newValue, found, withValue}
+use Rattle.amending.proofs.Named.{Named}
 use Rattle.demands.specs.Demand3.{putIn, Elsewhere}
-use Rattle.demands.proofs.Values.{Named, Alike, steady-size, amended-good, amended-alike, amended-found, alike-count, alike-named, other-found}
+use Rattle.demands.proofs.Values.{Alike, steady-size, amended-good, amended-alike, amended-found, alike-count, alike-named, other-found}
 
 -- an entry names a value of these records, its old value stands there, and its new value is a word
 pub record Fits (rs : List (List ℕ)) (e : Entry) : Type 0 where

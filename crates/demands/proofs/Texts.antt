@@ -1,4 +1,5 @@
 -- The accepted texts are exactly the good ones.
+use Rattle.record.proofs.Values.{is-data}
 use mathlib.Core.Path.{_≡_, refl, sym, ap, _∙_}
 use mathlib.Core.List.{List, [], _∷_, _++_, map}
 use Prim.Native.Nat.{ℕ, suc, _+_, _-_, _≤_, min}
@@ -14,7 +15,6 @@ use Rattle.record.specs.Rules.{RecordOk}
 use Rattle.block.proofs.Exact.{ok-long}
 use Rattle.laying.specs.Laying.{Line}
 use Rattle.lines.specs.Lines.{dataPlan, kindShown, shown}
-use Rattle.lines.proofs.Sizes.{is-data}
 use Rattle.heading.specs.Heading.{Shape, card, fields, gives}
 use Rattle.reading.specs.Reading.{inState, atEnd, readLines}
 use Rattle.text.specs.Block.{readText}

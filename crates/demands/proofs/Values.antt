@@ -12,11 +12,11 @@ use Rattle.words.specs.Words.{word, All}
 use Rattle.words.proofs.Lists.{all-at, all-set}
 use Rattle.record.specs.Rules.{dataRecord, RecordOk}
 use Rattle.record.specs.Values.{isValue}
-use Rattle.record.proofs.Values.{value-at}
+use Rattle.record.proofs.Values.{is-data}
 use Rattle.lines.specs.Columns.{columnsBefore}
-use Rattle.lines.proofs.Sizes.{is-data}
 use Rattle.sheet.specs.Sheets.{Entry}
 use Rattle.amending.specs.Places.{recordNumber, wordNumber, recordIn, found, withValue}
+use Rattle.amending.proofs.Named.{Named, named-inside, named-value}
 use Rattle.demands.specs.Demand3.{Elsewhere}
 
 -- ---- a value's word
@@ -27,10 +27,6 @@ pub record ValueWord (r : List ℕ) (j : ℕ) : Type 0 where
   pub kind : word r 2 ≡ 1002
   pub low : 16 ≤ j
   pub high : j < length r
-
--- a value is such a word
-value-word : (r : List ℕ) (w : ℕ) → RecordOk r → isValue r w ≡ true → ValueWord r (w - 1)
-value-word r w h e = let v = value-at r w h e in record { ok = h; kind = v .kind; low = omega (arith, v .low); high = omega (arith, v .low, v .high) }
 
 -- the first 16 words stay, whatever is put there
 module _ (r : List ℕ) (j v : ℕ) (h : ValueWord r j) where
@@ -56,12 +52,6 @@ module _ (r : List ℕ) (j v : ℕ) (h : ValueWord r j) where
       }
 
 -- ---- one amendment
-
--- an entry names a value of these records
-pub record Named (rs : List (List ℕ)) (e : Entry) : Type 0 where
-  pub least : 1 ≤ recordNumber e
-  pub most : recordNumber e ≤ length rs
-  pub value : isValue (recordIn rs (recordNumber e)) (wordNumber e) ≡ true
 
 -- what no amendment changes of a record
 abbrev pub Steady : {A : Type 0} → (List ℕ → A) → Type 0
@@ -93,11 +83,13 @@ abbrev pub wordsBefore : Entry → ℕ
 wordsBefore e = wordNumber e - 1
 
 module _ (rs : List (List ℕ)) (e : Entry) (good : All RecordOk rs) (p : Named rs e) where
-  pub inside : recordsBefore e < length rs
-  inside = omega (arith, p .least, p .most)
+  inside : recordsBefore e < length rs
+  inside = named-inside rs e p
 
   pub named-word : ValueWord (its rs e) (wordsBefore e)
-  named-word = value-word (its rs e) (wordNumber e) (all-at RecordOk rs (recordsBefore e) [] inside good) (p .value)
+  named-word =
+      let v = named-value rs e p good in
+      record { ok = all-at RecordOk rs (recordsBefore e) [] inside good; kind = v .kind; low = omega (arith, v .low); high = omega (arith, v .low, v .high) }
 
   module _ (v : ℕ) where
     -- the record with the value in it
@@ -161,7 +153,7 @@ other-found rs e f v p q good other = by (eqb (recordNumber f) (recordNumber e))
         let n = eqb-true (recordNumber f) (recordNumber e) z in
         let w : wordsBefore e ≡ wordsBefore f → ⊥ = λ m. other n (omega (arith, low, low-f)) in
         rw n
-        (ap (λ r. getD r (wordsBefore e) 0) (getD-set-same rs (recordsBefore e) (set (its rs e) (wordsBefore f) v) [] (inside rs e good p))
+        (ap (λ r. getD r (wordsBefore e) 0) (getD-set-same rs (recordsBefore e) (set (its rs e) (wordsBefore f) v) [] (named-inside rs e p))
         ∙ getD-set-other (its rs e) (wordsBefore f) (wordsBefore e) v 0 w)
     by false z =
         let n = eqb-false (recordNumber f) (recordNumber e) z in

@@ -2,6 +2,7 @@
 use mathlib.Core.Path.{_≡_}
 use mathlib.Core.List.{List}
 use Prim.Native.Nat.{ℕ}
+use Rattle.units.specs.declared.Answer.{Answer}
 use Rattle.units.specs.Answers.{answered, packedOf}
 use Rattle.block.specs.declared.Judged.{Judged}
 use Rattle.block.specs.Cases.{judgedOf}
@@ -9,12 +10,10 @@ use Rattle.block.specs.Judging.{judged}
 use Rattle.block.specs.declared.Place.{Place}
 use Rattle.block.specs.Steps.{stepOf, findOf}
 use Rattle.words.specs.Words.{wordsOf}
-use Rattle.words.specs.Outcomes.{leaves}
-use Rattle.lines.specs.declared.Lined.{Lined}
+use Rattle.words.specs.Outcomes.{Written, leaves}
 use Rattle.lines.specs.Cases.{linedOf}
 use Rattle.lines.specs.Text.{toLines}
 use Rattle.text.specs.declared.Content.{Content}
-use Rattle.text.specs.declared.Blocked.{Blocked}
 use Rattle.text.specs.Cases.{contentOf, blockedOf}
 use Rattle.text.specs.Block.{wordsIn, toBlock}
 use Rattle.sheet.specs.declared.Opened.{Opened}
@@ -50,43 +49,41 @@ PrefixAgrees = (instrument : ℕ) (r s : Letters) → r ≡ prefixOf instrument 
 abbrev pub CedarPrefixAgrees : Type 0
 CedarPrefixAgrees = (instrument r s : ℕ) → r ≡ packedOf (prefixAnswer instrument) → s ≡ packedOf (prefixAnswer instrument) → r ≡ s
 
--- `lines::to_lines`: the answer's case and every byte of the text
+-- two outcomes of a call that writes one buffer: the answer's case, by its four numbers, and every byte of the buffer
+abbrev pub WrittenAgree : {R : Type 0} → (R → Answer) → Written → Type 0
+WrittenAgree {R} of o = (r s : R) (t u : List ℕ) → leaves (of r) t ≡ o → leaves (of s) u ≡ o → (r ≡ s) × (t ≡ u)
+
+-- and of such a call from C
+abbrev pub CedarWrittenAgree : Written → Type 0
+CedarWrittenAgree o = (r s : ℕ) (t u : List ℕ) → returned r t ≡ converted o → returned s u ≡ converted o → (r ≡ s) × (t ≡ u)
+
+-- `lines::to_lines`
 abbrev pub LinesAgree : Type 0
-LinesAgree =
-    (block text : List ℕ) (r s : Lined) (t u : List ℕ) → leaves (linedOf r) t ≡ toLines block text → leaves (linedOf s) u ≡ toLines block text →
-    (r ≡ s) × (t ≡ u)
+LinesAgree = (block text : List ℕ) → WrittenAgree linedOf (toLines block text)
 
 -- `cedar_to_lines`
 abbrev pub CedarLinesAgree : Type 0
-CedarLinesAgree =
-    (block text : List ℕ) (r s : ℕ) (t u : List ℕ) → returned r t ≡ converted (toLines block text) → returned s u ≡ converted (toLines block text) →
-    (r ≡ s) × (t ≡ u)
+CedarLinesAgree = (block text : List ℕ) → CedarWrittenAgree (toLines block text)
 
 -- `text::judge`
 abbrev pub ContentAgrees : Type 0
 ContentAgrees = (text : List ℕ) (r s : Content) → contentOf r ≡ wordsIn text → contentOf s ≡ wordsIn text → r ≡ s
 
--- `text::to_block`: the answer's case and every byte of the block
+-- `text::to_block`
 abbrev pub BlockAgrees : Type 0
-BlockAgrees =
-    (text block : List ℕ) (r s : Blocked) (b c : List ℕ) → leaves (blockedOf r) b ≡ toBlock text block → leaves (blockedOf s) c ≡ toBlock text block →
-    (r ≡ s) × (b ≡ c)
+BlockAgrees = (text block : List ℕ) → WrittenAgree blockedOf (toBlock text block)
 
 -- `cedar_to_block`
 abbrev pub CedarBlockAgrees : Type 0
-CedarBlockAgrees =
-    (text block : List ℕ) (r s : ℕ) (b c : List ℕ) → returned r b ≡ converted (toBlock text block) → returned s c ≡ converted (toBlock text block) →
-    (r ≡ s) × (b ≡ c)
+CedarBlockAgrees = (text block : List ℕ) → CedarWrittenAgree (toBlock text block)
 
 -- `sheet::open`
 abbrev pub OpenAgrees : Type 0
 OpenAgrees = (sheet : List ℕ) (r s : Opened) → openedOf r ≡ opened version1 sheet → openedOf s ≡ opened version1 sheet → r ≡ s
 
--- `sheet::start`: the answer's case and every byte of the sheet
+-- `sheet::start`
 abbrev pub StartAgrees : Type 0
-StartAgrees =
-    (sheet : List ℕ) (r s : Opened) (t u : List ℕ) → leaves (answered (openedOf r)) t ≡ started version1 sheet → leaves (answered (openedOf s)) u ≡ started version1 sheet →
-    (r ≡ s) × (t ≡ u)
+StartAgrees = (sheet : List ℕ) → WrittenAgree (λ (o : Opened). answered (openedOf o)) (started version1 sheet)
 
 -- two outcomes of a call on a block and its sheet: the answer's case and every byte of both buffers
 abbrev pub BothAgree : Outcome → Type 0
@@ -104,9 +101,7 @@ UndoAgrees = (block sheet : List ℕ) → BothAgree (undo version1 block sheet)
 
 -- `cedar_sheet_start`
 abbrev pub CedarStartAgrees : Type 0
-CedarStartAgrees =
-    (sheet : List ℕ) (r s : ℕ) (t u : List ℕ) → returned r t ≡ converted (started version1 sheet) → returned s u ≡ converted (started version1 sheet) →
-    (r ≡ s) × (t ≡ u)
+CedarStartAgrees = (sheet : List ℕ) → CedarWrittenAgree (started version1 sheet)
 
 -- two outcomes of such a call from C
 abbrev pub CedarBothAgree : Outcome → Type 0

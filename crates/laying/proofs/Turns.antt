@@ -123,7 +123,7 @@ behind n ms ws =
     ∙ ended-append (laid (part n) ws) (laid ms (drop (fieldsIn (part n)) ws))
     ∙ ap (λ k. ended (laid (part n) ws) ++ ended (laid ms (drop k ws))) (fieldsIn-part n)
 
-pub part-then : (n : ℕ) (ms ws : List ℕ) (place : ℕ) → ended (laid (part n ++ ms) (drop place ws)) ≡ ended (laid (part n) (drop place ws)) ++ ended (laid ms (drop (place + n) ws))
+part-then : (n : ℕ) (ms ws : List ℕ) (place : ℕ) → ended (laid (part n ++ ms) (drop place ws)) ≡ ended (laid (part n) (drop place ws)) ++ ended (laid ms (drop (place + n) ws))
 part-then n ms ws place = behind n ms (drop place ws) ∙ ap (λ l. ended (laid (part n) (drop place ws)) ++ ended (laid ms l)) (drop-drop n place ws)
 
 -- a row, and the rows behind it

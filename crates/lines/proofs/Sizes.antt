@@ -211,15 +211,6 @@ cards-are r h =
     ∙ sym (append-assoc (fieldsOf (take 20 (shown r))) (10 ∷ []) (ended (cardLines (lineCount r - 1) (drop 40 r))))
 
 -- what a good record is by its kind
-pub is-data : (r : List ℕ) → RecordOk r → word r 2 ≡ 1002 → DataOk r
-is-data r h e = by (h .kind)
-  where
-    by : KindOk r → DataOk r
-    by (catalogue f c) = absurd (omega arith)
-    by (header f c) = absurd (omega arith)
-    by (dataRecord f d) = d
-
--- whole cards behind a card of prologue
 pub record Cards (r : List ℕ) : Type 0 where
   pub count : lineCount r ≡ length r / 40
   pub least : 40 ≤ length r

@@ -13,6 +13,15 @@ use Rattle.record.specs.Judging.{within, wordsNeeded}
 use Rattle.record.specs.Rules.{DataOk, KindOk, catalogue, header, dataRecord, RecordOk}
 use Rattle.record.specs.Values.{isValue}
 
+-- a good record of kind 1002 keeps the rules of Data
+pub is-data : (r : List ℕ) → RecordOk r → word r 2 ≡ 1002 → DataOk r
+is-data r h e = by (h .kind)
+  where
+    by : KindOk r → DataOk r
+    by (catalogue f c) = absurd (omega arith)
+    by (header f c) = absurd (omega arith)
+    by (dataRecord f d) = d
+
 within-on : (least most x : ℕ) → within least most x ≡ true → (least ≤ x) × (x ≤ most)
 within-on least most x e = let a = and-on (leb least x) _ e in (leb-true least x (a .0), leb-true x most (a .1))
 
@@ -37,10 +46,7 @@ value-at r w h e =
     let values = codes + word r 14 in
     let all = wordsNeeded (word r 13) (word r 14) (word r 15) (word r 16) in
     let a = and-on (eqb (word r 2) 1002) (within (codes + 1) values w || within (values + word r 15 + 1) all w) e in
-    by (h .kind) (eqb-true (word r 2) 1002 (a .0))
-    (λ d. in-ranges codes values (values + word r 15) all w (omega (arith, d .lprol .least-is)) (omega arith) (omega arith) (omega arith) (a .1))
-  where
-    by : KindOk r → word r 2 ≡ 1002 → (DataOk r → (16 < w) × (w ≤ wordsNeeded (word r 13) (word r 14) (word r 15) (word r 16))) → ValueAt r w
-    by (catalogue f c) k m = absurd (omega arith)
-    by (header f c) k m = absurd (omega arith)
-    by (dataRecord f d) k m = record { kind = k; low = m d .0; high = omega (arith, m d .1, d .sum) }
+    let kind = eqb-true (word r 2) 1002 (a .0) in
+    let d = is-data r h kind in
+    let m = in-ranges codes values (values + word r 15) all w (omega (arith, d .lprol .least-is)) (omega arith) (omega arith) (omega arith) (a .1) in
+    record { kind = kind; low = m .0; high = omega (arith, m .1, d .sum) }

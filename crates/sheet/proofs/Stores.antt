@@ -74,16 +74,16 @@ unfolding sheetOf sheetWith bytesOf joined
 start-put s l h e = rw (e, h) (ap (λ t. 65 ∷ 77 ∷ 68 ∷ 0 ∷ 1 ∷ 0 ∷ 0 ∷ 0 ∷ t) (zero-bytes 256))
 
 -- an entry put behind those that stand, and the count
-pub added : (s : List ℕ) (count : ℕ) (e : Entry) {s₁ s₂ : List ℕ} → KeepsLayout version1 s → count ≡ length (entriesOf version1 s) → count < 64 → length e ≡ 4
-    → s₁ ≡ sets s (8 + bytesOfWords (count * 4)) (bytesOf e) → s₂ ≡ sets s₁ 5 (bytesOf ((count + 1) ∷ [])) → s₂ ≡ sheetOf version1 (entriesOf version1 s ++ e ∷ [])
-added s count e h n room four e₁ e₂ = rw (e₂, e₁, n) (entry-added version1 s (entriesOf version1 s) e h (omega arith) four)
+pub added : (y : Layout) (s : List ℕ) (count : ℕ) (e : Entry) {s₁ s₂ : List ℕ} → KeepsLayout y s → count ≡ length (entriesOf y s) → count < y .limit → length e ≡ y .words
+    → s₁ ≡ sets s (8 + bytesOfWords (count * y .words)) (bytesOf e) → s₂ ≡ sets s₁ 5 (bytesOf ((count + 1) ∷ [])) → s₂ ≡ sheetOf y (entriesOf y s ++ e ∷ [])
+added y s count e h n room size e₁ e₂ = rw (e₂, e₁, n) (entry-added y s (entriesOf y s) e h (omega arith) size)
 
 -- zeros in place of the last entry, and the count
-pub removed : (s : List ℕ) (left : ℕ) {s₁ s₂ : List ℕ} → KeepsLayout version1 s → left + 1 ≡ length (entriesOf version1 s)
-    → s₁ ≡ sets s (8 + bytesOfWords (left * 4)) (bytesOf (replicate 4 0)) → s₂ ≡ sets s₁ 5 (bytesOf (left ∷ [])) → s₂ ≡ sheetOf version1 (take left (entriesOf version1 s))
-removed s left h n e₁ e₂ =
-    let l : left ≡ length (entriesOf version1 s) - 1 = omega (arith, n) in
-    rw (e₂, e₁, l) (entry-cleared version1 s (entriesOf version1 s) h (omega (arith, n)))
+pub removed : (y : Layout) (s : List ℕ) (left : ℕ) {s₁ s₂ : List ℕ} → KeepsLayout y s → left + 1 ≡ length (entriesOf y s)
+    → s₁ ≡ sets s (8 + bytesOfWords (left * y .words)) (bytesOf (replicate (y .words) 0)) → s₂ ≡ sets s₁ 5 (bytesOf (left ∷ [])) → s₂ ≡ sheetOf y (take left (entriesOf y s))
+removed y s left h n e₁ e₂ =
+    let l : left ≡ length (entriesOf y s) - 1 = omega (arith, n) in
+    rw (e₂, e₁, l) (entry-cleared y s (entriesOf y s) h (omega (arith, n)))
 
 -- a list of four, number by number
 four-of : (e : List ℕ) → length e ≡ 4 → e ≡ getD e 0 0 ∷ getD e 1 0 ∷ getD e 2 0 ∷ getD e 3 0 ∷ []

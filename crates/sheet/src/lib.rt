@@ -16,7 +16,7 @@ ghost use Rattle.sheet.specs.Sheets.{version1, sheetBytes, sheetOf, numb
 ghost use Rattle.sheet.specs.Rules.{KeepsLayout};
 ghost use Rattle.sheet.specs.Cases.{entryOf, openedOf};
 
-pub const VERSION: u16 = 1;
+const VERSION: u16 = 1;
 
 // So many bytes.
 const SIZE: usize = 520;

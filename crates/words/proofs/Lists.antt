@@ -5,7 +5,7 @@ use Prim.Native.Nat.{ℕ, zero, suc, _+_, _-_, _≤_, _<_}
 use native.Mathlib.Nat.{suc-add, zero-add}
 use native.Mathlib.Omega.{arith}
 use lib.ListN.{length, getD, take, drop, set, replicate}
-use lib.Seq.{slice, take-nil, take-append-seam, drop-append-seam, take-append-add}
+use lib.Seq.{slice, take-nil}
 use Rattle.words.specs.Words.{All}
 
 module _ {A : Type 0} where
@@ -17,13 +17,6 @@ module _ {A : Type 0} where
   -- a part by its start and length is the slice by its two ends
   pub part-slice : (f t : ℕ) (l : List A) → f ≤ t → take (t - f) (drop f l) ≡ slice f t l
   part-slice f t l h = let e : f + (t - f) ≡ t = omega arith in take-drop (t - f) f l ∙ ap (λ n. drop f (take n l)) e
-
-  -- a part between others
-  pub slice-part : (front part back : List A) → slice (length front) (length front + length part) (front ++ (part ++ back)) ≡ part
-  slice-part front part back =
-      ap (drop (length front)) (take-append-add front (part ++ back) (length part))
-      ∙ drop-append-seam front (take (length part) (part ++ back))
-      ∙ take-append-seam part back
 
 module _ {A : Type 0} (P : A → Type 0) where
   -- what holds of all holds of the first ones, and of the others

@@ -5,7 +5,6 @@ use Rattle.amending.proofs.Located.{Located, located, place-none, place
 use Rattle.words.specs.Words.{Below}
 use Rattle.words.proofs.Laws.{all-below}
 use Rattle.block.proofs.Placed.{find-record}
-use Rattle.block.proofs.Exact.{only-good}
 use Rattle.block.specs.Records.{recordsOf}
 use borrow.Author.Needs.{needs}
 use Rattle.amending.proofs.find_value.Statement.{statement}
@@ -17,7 +16,7 @@ bytes c = all-below 256 (now (c .before .args .block)) (λ i. omega (arith, c .s
 it : (c : tie.After-known-told) → let a = c .before .before .before .before .before .args in let g = c .before .at .given .0 in
     Located (now (a .block)) (recordsOf (now (a .block))) (a .number) (g .0 .0) (g .1 .0 .0)
 it c = let a = c .before .before .before .before .before in let s = bytes (c .before .before .before .before) in
-    located (now (a .args .block)) (recordsOf (now (a .args .block))) (only-good (now (a .args .block)) (a .pre .count) s (a .pre .is) .0) (a .args .number) (c .before .at .given .0 .0) (c .before .at .given .0 .1 .0)
+    located (now (a .args .block)) (a .pre .count) s (a .pre .is) (a .args .number) (c .before .at .given .0 .0) (c .before .at .given .0 .1 .0)
     (sym (c .before .before .before .find .ensures ∙ find-record (now (a .args .block)) (a .pre .count) s (a .pre .is) (a .args .number)) ∙ c .before .at .given .1)
 
 find-requires : tie.Need-find-requires

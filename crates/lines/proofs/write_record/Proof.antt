@@ -1,4 +1,5 @@
-use Rattle.lines.proofs.Sizes.{Sized, sized, Cards, is-cards, cards-are, is-data, data-is}
+use Rattle.record.proofs.Values.{is-data}
+use Rattle.lines.proofs.Sizes.{Sized, sized, Cards, is-cards, cards-are, data-is}
 use Rattle.lines.specs.Lines.{linesOf}
 use Rattle.laying.specs.Laying.{fieldsOf, cardLines, ended}
 use Rattle.block.proofs.Exact.{ok-long}

@@ -1,0 +1,44 @@
+-- An entry names a value of some records.
+use mathlib.Core.Path.{_≡_}
+use mathlib.Core.Bool.{true, false}
+use mathlib.Core.List.{List, []}
+use Prim.Native.Nat.{ℕ, _-_, _≤_, _<_}
+use native.Mathlib.Omega.{arith}
+use borrow.Author.Tests.{ltb-false, eqb-false, le-ltb, ne-eqb}
+use lib.Dec.{eqb, ltb}
+use lib.ListN.{length}
+use Rattle.units.proofs.Verdicts.{or-off}
+use Rattle.words.specs.Words.{All}
+use Rattle.words.proofs.Lists.{all-at}
+use Rattle.record.specs.Rules.{RecordOk}
+use Rattle.record.specs.Values.{isValue}
+use Rattle.record.proofs.Values.{ValueAt, value-at}
+use Rattle.sheet.specs.Sheets.{Entry}
+use Rattle.amending.specs.Places.{recordNumber, wordNumber, recordIn, noRecord}
+
+-- row 41 is not given exactly for the numbers of records
+module _ (rs : List (List ℕ)) (n : ℕ) where
+  pub is-record : noRecord rs n ≡ false → (1 ≤ n) × (n ≤ length rs)
+  unfolding noRecord
+  is-record e = let o = or-off (eqb n 0) (ltb (length rs) n) e in let z = eqb-false n 0 (o .0) in (omega (arith, z), ltb-false (length rs) n (o .1))
+
+  pub record-is : 1 ≤ n → n ≤ length rs → noRecord rs n ≡ false
+  unfolding noRecord
+  record-is h k = simp (ne-eqb n 0 (λ e. omega arith), le-ltb (length rs) n k)
+
+pub record Named (rs : List (List ℕ)) (e : Entry) : Type 0 where
+  pub least : 1 ≤ recordNumber e
+  pub most : recordNumber e ≤ length rs
+  pub value : isValue (recordIn rs (recordNumber e)) (wordNumber e) ≡ true
+
+module _ (rs : List (List ℕ)) (e : Entry) (p : Named rs e) where
+  -- its record is there
+  pub named-there : noRecord rs (recordNumber e) ≡ false
+  named-there = record-is rs (recordNumber e) (p .least) (p .most)
+
+  pub named-inside : recordNumber e - 1 < length rs
+  named-inside = omega (arith, p .least, p .most)
+
+  -- and its word, behind the counts of a Data record
+  pub named-value : All RecordOk rs → ValueAt (recordIn rs (recordNumber e)) (wordNumber e)
+  named-value good = value-at (recordIn rs (recordNumber e)) (wordNumber e) (all-at RecordOk rs (recordNumber e - 1) [] named-inside good) (p .value)
