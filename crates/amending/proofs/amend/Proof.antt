@@ -11,8 +11,12 @@ use borrow.Author.Needs.{needs}
 use Rattle.amending.proofs.amend.Statement.{statement}
 use Rattle.amending.proofs.amend.Tie as tie
 
-looked : (c : tie.After-known-told2) → let a = c .before .before .before .before .before .before .before .before .args in Looked version1 (now (a .block)) (now (a .sheet)) (c .before .count .given .0 .0)
-looked c = let a = c .before .before .before .before .before .before .before .before .args in
+-- back from one place to another
+abbrev start-before-look : tie.After-look → tie.Start
+start-before-look c = c .before .before .before .before .before
+
+looked : (c : tie.After-known-told2) → let a = start-before-look (c .before .before .before) .args in Looked version1 (now (a .block)) (now (a .sheet)) (c .before .count .given .0 .0)
+looked c = let a = start-before-look (c .before .before .before) .args in
     look-passed version1 (now (a .block)) (now (a .sheet)) (c .before .count .given .0 .0) (all-below 256 (now (a .sheet)) (λ i. omega (arith, c .before .before .before .before .before .before .slice-known2 .given i)))
     (sym (c .before .before .before .look .ensures) ∙ ap amendedOf (c .before .count .given .1))
 
@@ -35,7 +39,7 @@ same-length-2 : tie.Need-same-length-2
 same-length-2 c = search needs
 
 returns : tie.Need-returns
-returns c = let a = c .before .before .before .before .before .before .before .before .args in look-refused version1 (amendable version1 (entryOf (c .before .before .before .before .before .before .before .before .args .e))) (now (a .block)) (now (a .sheet)) _ (sym (c .before .before .before .look .ensures) ∙ ap amendedOf (c .before .r .given .1))
+returns c = let a = start-before-look (c .before .before .before) .args in look-refused version1 (amendable version1 (entryOf (start-before-look (c .before .before .before) .args .e))) (now (a .block)) (now (a .sheet)) _ (sym (c .before .before .before .look .ensures) ∙ ap amendedOf (c .before .r .given .1))
 
 same-length-3 : tie.Need-same-length-3
 same-length-3 c = search needs
@@ -44,7 +48,7 @@ same-length-4 : tie.Need-same-length-4
 same-length-4 c = search needs
 
 returns-2 : tie.Need-returns-2
-returns-2 c = c .before .before .before .before .amend-next .ensures ∙ looked (c .before .before .before .before .before .before .before) .goes-on (amendable version1 (entryOf (c .before .before .before .before .before .before .before .before .before .before .before .before .before .before .before .args .e)))
+returns-2 c = c .before .before .before .before .amend-next .ensures ∙ looked (c .before .before .before .before .before .before .before) .goes-on (amendable version1 (entryOf (start-before-look (c .before .before .before .before .before .before .before .before .before .before) .args .e)))
 
 pub amend-spec : {M : Type 1} → statement M
 amend-spec =

@@ -12,6 +12,10 @@ use borrow.Author.Needs.{needs}
 use Rattle.amending.proofs.amend_next.Statement.{statement}
 use Rattle.amending.proofs.amend_next.Tie as tie
 
+-- back from one place to another
+abbrev start-before-find-value : tie.After-find-value → tie.Start
+start-before-find-value c = c .before .before .before .before .before
+
 returns : tie.Need-returns
 returns c = let a = c .before .before .before .args in refusal-leaves version1 (now (a .block)) (now (a .sheet)) (answer 44 0 0 0) _ (amend-full version1 (entryOf (a .e)) (recordsOf (now (a .block))) (entriesOf version1 (now (a .sheet))) (omega (arith, c .before .before .before .pre .2)))
 
@@ -28,19 +32,19 @@ enum-known-at : tie.Need-enum-known-at
 enum-known-at c = search needs
 
 amend-at-requires : tie.Need-amend-at-requires
-amend-at-requires c κs = let p = c .before .before .before .before .before .before .before .before .before .before .pre in (p .0, p .1, p .2, omega arith, sym (c .before .before .before .before .before .find-value .ensures) ∙ ap spotOf (c .before .before .before .at .given .1))
+amend-at-requires c κs = let p = start-before-find-value (c .before .before .before .before .before) .pre in (p .0, p .1, p .2, omega arith, sym (c .before .before .before .before .before .find-value .ensures) ∙ ap spotOf (c .before .before .before .at .given .1))
 
 same-length : tie.Need-same-length
 same-length c = search needs
 
 returns-2 : tie.Need-returns-2
-returns-2 c = let a = c .before .before .before .before .before .before .before .args in refusal-leaves version1 (now (a .block)) (now (a .sheet)) (answer 41 0 0 0) _ (amend-no-place version1 (entryOf (a .e)) (recordsOf (now (a .block))) (entriesOf version1 (now (a .sheet))) (omega (arith, c .before .before .before .before .before .before .before .pre .2)) (answer 41 0 0 0) (sym (c .before .before .find-value .ensures) ∙ ap spotOf (c .enum-told .given .1)))
+returns-2 c = let a = start-before-find-value (c .before .before) .args in refusal-leaves version1 (now (a .block)) (now (a .sheet)) (answer 41 0 0 0) _ (amend-no-place version1 (entryOf (a .e)) (recordsOf (now (a .block))) (entriesOf version1 (now (a .sheet))) (omega (arith, start-before-find-value (c .before .before) .pre .2)) (answer 41 0 0 0) (sym (c .before .before .find-value .ensures) ∙ ap spotOf (c .enum-told .given .1)))
 
 same-length-2 : tie.Need-same-length-2
 same-length-2 c = search needs
 
 returns-3 : tie.Need-returns-3
-returns-3 c = let a = c .before .before .before .before .before .before .before .args in refusal-leaves version1 (now (a .block)) (now (a .sheet)) (answer 42 0 0 0) _ (amend-no-place version1 (entryOf (a .e)) (recordsOf (now (a .block))) (entriesOf version1 (now (a .sheet))) (omega (arith, c .before .before .before .before .before .before .before .pre .2)) (answer 42 0 0 0) (sym (c .before .before .find-value .ensures) ∙ ap spotOf (c .enum-told2 .given .1)))
+returns-3 c = let a = start-before-find-value (c .before .before) .args in refusal-leaves version1 (now (a .block)) (now (a .sheet)) (answer 42 0 0 0) _ (amend-no-place version1 (entryOf (a .e)) (recordsOf (now (a .block))) (entriesOf version1 (now (a .sheet))) (omega (arith, start-before-find-value (c .before .before) .pre .2)) (answer 42 0 0 0) (sym (c .before .before .find-value .ensures) ∙ ap spotOf (c .enum-told2 .given .1)))
 
 same-length-3 : tie.Need-same-length-3
 same-length-3 c = search needs

@@ -10,8 +10,12 @@ use borrow.Author.Needs.{needs}
 use Rattle.amending.proofs.undo.Statement.{statement}
 use Rattle.amending.proofs.undo.Tie as tie
 
-looked : (c : tie.After-known-told2) → let a = c .before .before .before .before .before .before .before .before .args in Looked version1 (now (a .block)) (now (a .sheet)) (c .before .count .given .0 .0)
-looked c = let a = c .before .before .before .before .before .before .before .before .args in
+-- back from one place to another
+abbrev start-before-look : tie.After-look → tie.Start
+start-before-look c = c .before .before .before .before .before
+
+looked : (c : tie.After-known-told2) → let a = start-before-look (c .before .before .before) .args in Looked version1 (now (a .block)) (now (a .sheet)) (c .before .count .given .0 .0)
+looked c = let a = start-before-look (c .before .before .before) .args in
     look-passed version1 (now (a .block)) (now (a .sheet)) (c .before .count .given .0 .0) (all-below 256 (now (a .sheet)) (λ i. omega (arith, c .before .before .before .before .before .before .slice-known2 .given i)))
     (sym (c .before .before .before .look .ensures) ∙ ap amendedOf (c .before .count .given .1))
 
@@ -34,7 +38,7 @@ same-length-2 : tie.Need-same-length-2
 same-length-2 c = search needs
 
 returns : tie.Need-returns
-returns c = let a = c .before .before .before .before .before .before .before .before .args in look-refused version1 (undoable) (now (a .block)) (now (a .sheet)) _ (sym (c .before .before .before .look .ensures) ∙ ap amendedOf (c .before .r .given .1))
+returns c = let a = start-before-look (c .before .before .before) .args in look-refused version1 (undoable) (now (a .block)) (now (a .sheet)) _ (sym (c .before .before .before .look .ensures) ∙ ap amendedOf (c .before .r .given .1))
 
 same-length-3 : tie.Need-same-length-3
 same-length-3 c = search needs

@@ -16,9 +16,16 @@ Inv-loop block number at₀ i₀ at i = (1 ≤ i) × (findOf (wordsOf block) 1 n
 abbrev μ-loop : tie.MeasureT-loop
 μ-loop block number at₀ i₀ at i = i
 
+-- back from one place to another
+abbrev start-before-place : tie.After-place Inv-loop μ-loop → tie.Start Inv-loop μ-loop
+start-before-place c = c .before .before .before .before .before .before .before
+
+abbrev loop-before-place : tie.After-place Inv-loop μ-loop → tie.At-loop Inv-loop μ-loop
+loop-before-place c = c .before .before .before .before
+
 -- the record that a turn passes over
 found : (c : tie.After-place Inv-loop μ-loop) → let p = c .place .given .0 in
-    Found (wordsOf (now (c .before .before .before .before .before .before .before .args .block))) (c .before .before .before .before .loop .at) (p .0 .0) (p .1 .0 .0)
+    Found (wordsOf (now (start-before-place c .args .block))) (loop-before-place c .loop .at) (p .0 .0) (p .1 .0 .0)
 found c = step-found _ _ _ _ (sym (c .before .before .step .ensures) ∙ c .place .given .1)
 
 returns : tie.Need-returns Inv-loop μ-loop
@@ -40,7 +47,7 @@ enum-known-place : tie.Need-enum-known-place Inv-loop μ-loop
 enum-known-place c = search needs
 
 add-at : tie.Need-add-at Inv-loop μ-loop
-add-at c = omega (arith, found (c .before), length-wordsOf (now (c .before .before .before .before .before .before .before .before .args .block)))
+add-at c = omega (arith, found (c .before), length-wordsOf (now (start-before-place (c .before) .args .block)))
 
 sub-i : tie.Need-sub-i Inv-loop μ-loop
 sub-i c = omega arith
@@ -49,7 +56,7 @@ loop-less : tie.Need-loop-less Inv-loop μ-loop
 loop-less c = omega arith
 
 loop-again : tie.Need-loop-again Inv-loop μ-loop
-loop-again c = (omega arith, c .before .before .before .before .before .loop .inv .1 ∙ find-on (wordsOf (now (c .before .before .before .before .before .before .before .before .args .block))) (c .before .before .before .before .before .loop .at) (c .before .before .before .before .before .loop .i) (omega arith) ∙ ap (λ s. past s (λ next. findOf (wordsOf (now (c .before .before .before .before .before .before .before .before .args .block))) next (c .before .before .before .before .before .loop .i - 1))) (sym (c .before .before .before .step .ensures) ∙ c .before .place .given .1))
+loop-again c = (omega arith, loop-before-place (c .before) .loop .inv .1 ∙ find-on (wordsOf (now (start-before-place (c .before) .args .block))) (loop-before-place (c .before) .loop .at) (loop-before-place (c .before) .loop .i) (omega arith) ∙ ap (λ s. past s (λ next. findOf (wordsOf (now (start-before-place (c .before) .args .block))) next (loop-before-place (c .before) .loop .i - 1))) (sym (c .before .before .before .step .ensures) ∙ c .before .place .given .1))
 
 step-requires-2 : tie.Need-step-requires-2 Inv-loop μ-loop
 step-requires-2 c κs = tt

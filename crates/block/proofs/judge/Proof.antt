@@ -16,23 +16,33 @@ use borrow.Author.Needs.{needs}
 use Rattle.block.proofs.judge.Statement.{statement}
 use Rattle.block.proofs.judge.Tie as tie
 
+-- back from one place to another
+abbrev start-before-count : tie.After-count → tie.Start
+start-before-count c = c .before .before .before .before
+
+abbrev start-before-exclusive-or : tie.After-exclusive-or → tie.Start
+start-before-exclusive-or c = start-before-count (c .before .before .before .before .before .before)
+
+abbrev count-before-exclusive-or : tie.After-exclusive-or → tie.After-count
+count-before-exclusive-or c = c .before .before .before .before .before .before
+
 -- the size is right
 off : (c : tie.Else1) → wrongSize (length (now (c .before .before .before .args .block))) ≡ false
 off c = sym (c .before .wrong-size .ensures) ∙ c .if1 .left
 
-sized : (c : tie.After-count) → SizeRight (length (now (c .before .before .before .before .args .block))) (length (wordsOf (now (c .before .before .before .before .args .block))))
-sized c = size-right (now (c .before .before .before .before .args .block)) (off (c .before))
+sized : (c : tie.After-count) → SizeRight (length (now (start-before-count c .args .block))) (length (wordsOf (now (start-before-count c .args .block))))
+sized c = size-right (now (start-before-count c .args .block)) (off (c .before))
 
 -- word 1, the exclusive or and the record words are what the code has
-stated-is : (c : tie.After-words-said) → getD (wordsOf (now (c .before .before .before .before .before .before .args .block))) 0 0 ≡ c .words-said .result .0
+stated-is : (c : tie.After-words-said) → getD (wordsOf (now (start-before-count (c .before .before) .args .block))) 0 0 ≡ c .words-said .result .0
 stated-is c = sym (c .words-said .ensures .0 ∙ c .before .word-at .ensures)
 
-computed-is : (c : tie.After-exclusive-or) → xorAll (take (c .before .before .before .before .before .before .count .result .0 - 1) (wordsOf (now (c .before .before .before .before .before .before .before .before .before .before .args .block)))) ≡ c .exclusive-or .result
+computed-is : (c : tie.After-exclusive-or) → xorAll (take (count-before-exclusive-or c .count .result .0 - 1) (wordsOf (now (start-before-exclusive-or c .args .block)))) ≡ c .exclusive-or .result
 computed-is c =
-    sym (c .exclusive-or .ensures ∙ ap (λ l. xorAll (wordsOf l)) (c .before .part .ensures) ∙ ap xorAll (words-slice 0 (c .before .before .before .before .before .before .count .result .0 - 1) (now (c .before .before .before .before .before .before .before .before .before .before .args .block))))
+    sym (c .exclusive-or .ensures ∙ ap (λ l. xorAll (wordsOf l)) (c .before .part .ensures) ∙ ap xorAll (words-slice 0 (count-before-exclusive-or c .count .result .0 - 1) (now (start-before-exclusive-or c .args .block))))
 
-inner-is : (c : tie.After-part2) → wordsOf (now (c .part2 .result)) ≡ slice 1 (c .before .before .before .before .before .before .before .before .count .result .0 - 1) (wordsOf (now (c .before .before .before .before .before .before .before .before .before .before .before .before .args .block)))
-inner-is c = ap wordsOf (c .part2 .ensures) ∙ words-slice 1 (c .before .before .before .before .before .before .before .before .count .result .0 - 1) (now (c .before .before .before .before .before .before .before .before .before .before .before .before .args .block))
+inner-is : (c : tie.After-part2) → wordsOf (now (c .part2 .result)) ≡ slice 1 (count-before-exclusive-or (c .before .before) .count .result .0 - 1) (wordsOf (now (start-before-exclusive-or (c .before .before) .args .block)))
+inner-is c = ap wordsOf (c .part2 .ensures) ∙ words-slice 1 (count-before-exclusive-or (c .before .before) .count .result .0 - 1) (now (start-before-exclusive-or (c .before .before) .args .block))
 
 wrong-size-requires : tie.Need-wrong-size-requires
 wrong-size-requires c κs = search needs
@@ -74,17 +84,17 @@ cast-bits c = let x = c .before .before .before .word-at2 .result in let y = c .
 
 returns-3 : tie.Need-returns-3
 unfolding judged
-returns-3 c = simp (off (c .before .before .before .before .before .before .before .before), stated-is (c .before .before .before .before .before), ← c .before .before .before .before .before .before .before .count .ensures, eq-eqb _ _ (c .before .before .before .before .if2 .left), ← c .before .before .before .word-at2 .ensures, computed-is (c .before), ne-eqb _ _ (c .if3 .taken))
+returns-3 c = simp (off (count-before-exclusive-or (c .before) .before), stated-is (c .before .before .before .before .before), ← count-before-exclusive-or (c .before) .count .ensures, eq-eqb _ _ (c .before .before .before .before .if2 .left), ← c .before .before .before .word-at2 .ensures, computed-is (c .before), ne-eqb _ _ (c .if3 .taken))
 
 part-requires-2 : tie.Need-part-requires-2
-part-requires-2 c κs = let s = sized (c .before .before .before .before .before .before .before) in (omega arith, omega arith)
+part-requires-2 c κs = let s = sized (count-before-exclusive-or (c .before)) in (omega arith, omega arith)
 
 judge-records-requires : tie.Need-judge-records-requires
-judge-records-requires c κs = let s = sized (c .before .before .before .before .before .before .before .before) in omega (arith, ap length (inner-is c), length-slice 1 (c .before .before .before .before .before .before .before .before .count .result .0 - 1) (wordsOf (now (c .before .before .before .before .before .before .before .before .before .before .before .before .args .block))) (omega arith))
+judge-records-requires c κs = let s = sized (count-before-exclusive-or (c .before .before)) in omega (arith, ap length (inner-is c), length-slice 1 (count-before-exclusive-or (c .before .before) .count .result .0 - 1) (wordsOf (now (start-before-exclusive-or (c .before .before) .args .block))) (omega arith))
 
 returns-4 : tie.Need-returns-4
 unfolding judged
-returns-4 c = simp (off (c .before .before .before .before .before .before .before .before .before .before), stated-is (c .before .before .before .before .before .before .before), ← c .before .before .before .before .before .before .before .before .before .count .ensures, eq-eqb _ _ (c .before .before .before .before .before .before .if2 .left), ← c .before .before .before .before .before .word-at2 .ensures, computed-is (c .before .before .before), eq-eqb _ _ (c .before .before .if3 .left), ← inner-is (c .before)) (c .judge-records .ensures)
+returns-4 c = simp (off (count-before-exclusive-or (c .before .before .before) .before), stated-is (c .before .before .before .before .before .before .before), ← count-before-exclusive-or (c .before .before .before) .count .ensures, eq-eqb _ _ (c .before .before .before .before .before .before .if2 .left), ← c .before .before .before .before .before .word-at2 .ensures, computed-is (c .before .before .before), eq-eqb _ _ (c .before .before .if3 .left), ← inner-is (c .before)) (c .judge-records .ensures)
 
 pub judge-spec : {M : Type 1} → statement M
 judge-spec =

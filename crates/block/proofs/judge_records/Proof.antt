@@ -24,22 +24,32 @@ Inv-loop inner last end at₀ number₀ at number = (1 ≤ number) × (number �
 abbrev μ-loop : tie.MeasureT-loop
 μ-loop inner last end at₀ number₀ at number = end - at
 
--- in a turn, the record is judged in what is left
-left : (c : tie.After-part Inv-loop μ-loop) → wordsOf (now (c .part .result)) ≡ drop (c .before .before .loop .at) (wordsOf (now (c .before .before .before .before .before .args .inner)))
-left c = rest-words (now (c .before .before .before .before .before .args .inner)) (now (c .part .result)) (c .before .before .loop .at) (c .before .before .before .count .result .0) (c .before .before .before .count .ensures) (c .part .ensures)
+-- back from one place to another
+abbrev start-before-part : tie.After-part Inv-loop μ-loop → tie.Start Inv-loop μ-loop
+start-before-part c = c .before .before .before .before .before
 
-found : (c : tie.After-judge-record Inv-loop μ-loop) → checkedOf (c .judge-record .result) ≡ judgeRecord (c .before .before .before .loop .number) (drop (c .before .before .before .loop .at) (wordsOf (now (c .before .before .before .before .before .before .args .inner))))
+abbrev loop-before-size : tie.After-size Inv-loop μ-loop → tie.At-loop Inv-loop μ-loop
+loop-before-size c = c .before .before .before .before .before
+
+abbrev loop-before-f : tie.After-f Inv-loop μ-loop → tie.At-loop Inv-loop μ-loop
+loop-before-f c = c .before .before .before .before .before
+
+-- in a turn, the record is judged in what is left
+left : (c : tie.After-part Inv-loop μ-loop) → wordsOf (now (c .part .result)) ≡ drop (c .before .before .loop .at) (wordsOf (now (start-before-part c .args .inner)))
+left c = rest-words (now (start-before-part c .args .inner)) (now (c .part .result)) (c .before .before .loop .at) (c .before .before .before .count .result .0) (c .before .before .before .count .ensures) (c .part .ensures)
+
+found : (c : tie.After-judge-record Inv-loop μ-loop) → checkedOf (c .judge-record .result) ≡ judgeRecord (c .before .before .before .loop .number) (drop (c .before .before .before .loop .at) (wordsOf (now (start-before-part (c .before) .args .inner))))
 found c = c .judge-record .ensures ∙ ap (judgeRecord (c .before .before .before .loop .number)) (left (c .before))
 
 -- the record passed, and stands in what is left
-passes : (c : tie.After-size Inv-loop μ-loop) → judgeRecord (c .before .before .before .before .before .loop .number) (drop (c .before .before .before .before .before .loop .at) (wordsOf (now (c .before .before .before .before .before .before .before .before .args .inner)))) ≡ passed (c .size .given .0 .0 .0)
+passes : (c : tie.After-size Inv-loop μ-loop) → judgeRecord (loop-before-size c .loop .number) (drop (loop-before-size c .loop .at) (wordsOf (now (start-before-part (c .before .before .before) .args .inner)))) ≡ passed (c .size .given .0 .0 .0)
 passes c = sym (found (c .before .before)) ∙ ap checkedOf (c .size .given .1)
 
-fits : (c : tie.After-size Inv-loop μ-loop) → (16 ≤ c .size .given .0 .0 .0) × (c .before .before .before .before .before .loop .at + c .size .given .0 .0 .0 ≤ c .before .before .before .before .before .before .count .result .0)
+fits : (c : tie.After-size Inv-loop μ-loop) → (16 ≤ c .size .given .0 .0 .0) × (loop-before-size c .loop .at + c .size .given .0 .0 .0 ≤ loop-before-size c .before .count .result .0)
 fits c =
-    let ws = wordsOf (now (c .before .before .before .before .before .before .before .before .args .inner)) in
+    let ws = wordsOf (now (start-before-part (c .before .before .before) .args .inner)) in
     let r = passed-room _ _ _ (passes c) in
-    let l = length-drop (c .before .before .before .before .before .loop .at) ws in
+    let l = length-drop (loop-before-size c .loop .at) ws in
     (r .least, omega (arith, r .most))
 
 count-requires : tie.Need-count-requires Inv-loop μ-loop
@@ -58,14 +68,14 @@ enum-known-f : tie.Need-enum-known-f Inv-loop μ-loop
 enum-known-f c = search needs
 
 returns : tie.Need-returns Inv-loop μ-loop
-returns c = let ws = wordsOf (now (c .before .before .before .before .before .before .before .before .before .args .inner)) in let l = length-drop (c .before .before .before .before .before .before .loop .at) ws in
-    sym (c .before .before .before .before .before .before .loop .inv .3 ∙ walk-stop (c .before .before .before .before .before .before .loop .number) _ (drop (c .before .before .before .before .before .before .loop .at) ws) (omega arith) (sym (found (c .before .before .before)) ∙ ap checkedOf (c .before .f .given .1)))
+returns c = let ws = wordsOf (now (start-before-part (c .before .before .before .before) .args .inner)) in let l = length-drop (loop-before-f (c .before) .loop .at) ws in
+    sym (loop-before-f (c .before) .loop .inv .3 ∙ walk-stop (loop-before-f (c .before) .loop .number) _ (drop (loop-before-f (c .before) .loop .at) ws) (omega arith) (sym (found (c .before .before .before)) ∙ ap checkedOf (c .before .f .given .1)))
 
 enum-known-size : tie.Need-enum-known-size Inv-loop μ-loop
 enum-known-size c = search needs
 
 add-at : tie.Need-add-at Inv-loop μ-loop
-add-at c = let f = fits (c .before) in omega (arith, length-wordsOf (now (c .before .before .before .before .before .before .before .before .before .args .inner)))
+add-at c = let f = fits (c .before) in omega (arith, length-wordsOf (now (start-before-part (c .before .before .before .before) .args .inner)))
 
 add-number : tie.Need-add-number Inv-loop μ-loop
 add-number c = omega arith
@@ -74,11 +84,11 @@ loop-less : tie.Need-loop-less Inv-loop μ-loop
 loop-less c = omega (arith, fits (c .before))
 
 loop-again : tie.Need-loop-again Inv-loop μ-loop
-loop-again c = let ws = wordsOf (now (c .before .before .before .before .before .before .before .before .before .args .inner)) in
-    let l = length-drop (c .before .before .before .before .before .before .loop .at) ws in
+loop-again c = let ws = wordsOf (now (start-before-part (c .before .before .before .before) .args .inner)) in
+    let l = length-drop (loop-before-size (c .before) .loop .at) ws in
     let f = fits (c .before) in
-    let on = walk-on (c .before .before .before .before .before .before .loop .number) (c .before .size .given .0 .0 .0) (drop (c .before .before .before .before .before .before .loop .at) ws) (omega arith) (passes (c .before)) in
-    (omega arith, omega arith, omega arith, c .before .before .before .before .before .before .loop .inv .3 ∙ on ∙ ap (walk 0 (c .before .before .before .before .before .before .loop .number + 1)) (drop-drop (c .before .size .given .0 .0 .0) (c .before .before .before .before .before .before .loop .at) ws))
+    let on = walk-on (loop-before-size (c .before) .loop .number) (c .before .size .given .0 .0 .0) (drop (loop-before-size (c .before) .loop .at) ws) (omega arith) (passes (c .before)) in
+    (omega arith, omega arith, omega arith, loop-before-size (c .before) .loop .inv .3 ∙ on ∙ ap (walk 0 (loop-before-size (c .before) .loop .number + 1)) (drop-drop (c .before .size .given .0 .0 .0) (loop-before-size (c .before) .loop .at) ws))
 
 sub-count : tie.Need-sub-count Inv-loop μ-loop
 sub-count c = omega arith

@@ -10,8 +10,15 @@ use borrow.Author.Needs.{needs}
 use Rattle.blocked.proofs.print.Statement.{statement}
 use Rattle.blocked.proofs.print.Tie as tie
 
+-- back from one place to another
+abbrev start-before-numbers : tie.After-numbers → tie.Start
+start-before-numbers c = c .before .before .before .before .before .before .before
+
+abbrev numbers-before-out2 : tie.After-out2 → tie.After-numbers
+numbers-before-out2 c = c .before .before .before .before .before
+
 -- the four numbers and the buffer are the call's
-told : (c : tie.After-numbers) → let a = c .before .before .before .before .before .before .before .args in
+told : (c : tie.After-numbers) → let a = start-before-numbers c .args in
     leaves (c .numbers .result) (c .before .before .before .to-block .last .1 .0) ≡ toBlock (now (a .text)) (now (a .out))
 told c = ap (λ r. leaves r (c .before .before .before .to-block .last .1 .0)) (c .numbers .ensures) ∙ c .before .before .before .to-block .ensures
 
@@ -28,7 +35,7 @@ same-length : tie.Need-same-length
 same-length c = search needs
 
 returns : tie.Need-returns
-returns c = let a = c .before .before .before .before .before .before .before .before .before .before .args in when-accepted (now (a .text)) (now (a .out)) (c .before .before .before .before .before .before .before .before .before .before .pre) _ _ (told (c .before .before .before)) (omega (arith, c .before .if1 .taken))
+returns c = let a = start-before-numbers (c .before .before .before) .args in when-accepted (now (a .text)) (now (a .out)) (start-before-numbers (c .before .before .before) .pre) _ _ (told (c .before .before .before)) (omega (arith, c .before .if1 .taken))
 
 write-refusal-requires : tie.Need-write-refusal-requires
 write-refusal-requires c κs = omega (arith, refusal-most (c .before .before .before .numbers .result))
@@ -37,7 +44,7 @@ same-length-2 : tie.Need-same-length-2
 same-length-2 c = search needs
 
 returns-2 : tie.Need-returns-2
-returns-2 c = let a = c .before .before .before .before .before .before .before .before .before .before .before .before .before .args in when-refused (now (a .text)) (now (a .out)) (c .before .before .before .before .before .before .before .before .before .before .before .before .before .pre) _ _ (told (c .before .before .before .before .before .before)) (c .before .before .before .before .if1 .left) (c .before .before .write-refusal .ensures)
+returns-2 c = let a = start-before-numbers (numbers-before-out2 (c .before)) .args in when-refused (now (a .text)) (now (a .out)) (start-before-numbers (numbers-before-out2 (c .before)) .pre) _ _ (told (numbers-before-out2 (c .before))) (c .before .before .before .before .if1 .left) (c .before .before .write-refusal .ensures)
 
 pub print-spec : {M : Type 1} → statement M
 print-spec =

@@ -16,6 +16,10 @@ Inv-loop line num row₀ end k₀ row k = (k ≤ end) × (length row ≡ 20) × 
 abbrev μ-loop : tie.MeasureT-loop
 μ-loop line num row₀ end k₀ row k = end - k
 
+-- back from one place to another
+abbrev start-before-read-field : tie.After-read-field Inv-loop μ-loop → tie.Start Inv-loop μ-loop
+start-before-read-field c = c .before .before .before .before .before .before .before .before
+
 add-end : tie.Need-add-end Inv-loop μ-loop
 add-end c = search needs
 
@@ -35,11 +39,11 @@ column-of-requires : tie.Need-column-of-requires Inv-loop μ-loop
 column-of-requires c κs = omega arith
 
 same-length : tie.Need-same-length Inv-loop μ-loop
-same-length c = c .before .before .before .before .before .before .loop .inv .1 ∙ sym (c .before .before .before .before .before .before .before .before .before .before .before .pre .1)
+same-length c = c .before .before .before .before .before .before .loop .inv .1 ∙ sym (start-before-read-field (c .before .before .before) .pre .1)
 
 returns : tie.Need-returns Inv-loop μ-loop
 unfolding filled
-returns c = let l = c .before .before .before .before .before .before .loop in let a = c .before .before .before .before .before .before .before .before .before .before .before .args in
+returns c = let l = c .before .before .before .before .before .before .loop in let a = start-before-read-field (c .before .before .before) .args in
     rw (c .column-of .ensures) (sym (ap (λ m. filled (a .num .0) (now (a .line)) (a .from .0) m (now (a .row))) (sym (add-sub-cancel-left (a .from .0) (a .count .0))) ∙ sym (l .inv .2) ∙ fill-bad (a .num .0) (now (a .line)) (l .k) (c .before .before .before .read-field .result) (c .before .before .before .before .columns-of-fields .result .0) (c .before .before .before .before .columns-of-fields .ensures) (c .before .before .before .read-field .ensures) (a .from .0 + a .count .0) (l .row) (c .before .before .before .before .before .loop-test .taken) (c .before .enum-told .given .1)))
 
 enum-known-w : tie.Need-enum-known-w Inv-loop μ-loop
@@ -58,7 +62,7 @@ loop-less : tie.Need-loop-less Inv-loop μ-loop
 loop-less c = omega arith
 
 loop-again : tie.Need-loop-again Inv-loop μ-loop
-loop-again c = let l = c .before .before .before .before .before .before .loop in let a = c .before .before .before .before .before .before .before .before .before .before .before .args in (
+loop-again c = let l = c .before .before .before .before .before .before .loop in let a = start-before-read-field (c .before .before .before) .args in (
   omega arith,
   length-set (l .row) (l .k) (c .before .w .given .0 .0) ∙ l .inv .1,
   sym (fill-word (a .num .0) (now (a .line)) (l .k) (c .before .before .before .read-field .result) (c .before .before .before .before .columns-of-fields .result .0) (c .before .before .before .before .columns-of-fields .ensures) (c .before .before .before .read-field .ensures) (a .from .0 + a .count .0) (l .row) (c .before .before .before .before .before .loop-test .taken) (c .before .w .given .0 .0) (c .before .w .given .1) (omega (arith, l .inv .1))) ∙ l .inv .2,

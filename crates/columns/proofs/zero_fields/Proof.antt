@@ -16,6 +16,10 @@ Inv-loop line num end k₀ k = (k ≤ end) × (zeros (num .0) line k (end - k) �
 abbrev μ-loop : tie.MeasureT-loop
 μ-loop line num end k₀ k = end - k
 
+-- back from one place to another
+abbrev start-before-loop : tie.At-loop Inv-loop μ-loop → tie.Start Inv-loop μ-loop
+start-before-loop c = c .before .before .before .before
+
 add-end : tie.Need-add-end Inv-loop μ-loop
 add-end c = search needs
 
@@ -29,7 +33,7 @@ enum-known-f : tie.Need-enum-known-f Inv-loop μ-loop
 enum-known-f c = search needs
 
 returns : tie.Need-returns Inv-loop μ-loop
-returns c = let l = c .before .before .before .before .before .loop in let a = c .before .before .before .before .before .before .before .before .before .args in
+returns c = let l = c .before .before .before .before .before .loop in let a = start-before-loop (c .before .before .before .before .before) .args in
     sym (zeros-bad (a .num .0) (now (a .line)) (l .k) (a .from .0 + a .count .0) (c .before .before .before .before .loop-test .taken) (flawOf (c .before .f .given .0 .0)) (sym (ap (checkedOf tt) (c .before .f .given .1)) ∙ c .before .before .before .zero-field .ensures)) ∙ l .inv .1 ∙ ap (zeros (a .num .0) (now (a .line)) (a .from .0)) (add-sub-cancel-left (a .from .0) (a .count .0))
 
 enum-told : tie.Need-enum-told Inv-loop μ-loop
@@ -42,11 +46,11 @@ loop-less : tie.Need-loop-less Inv-loop μ-loop
 loop-less c = omega arith
 
 loop-again : tie.Need-loop-again Inv-loop μ-loop
-loop-again c = let l = c .before .before .before .before .loop in let a = c .before .before .before .before .before .before .before .before .args in
+loop-again c = let l = c .before .before .before .before .loop in let a = start-before-loop (c .before .before .before .before) .args in
     (omega arith, sym (zeros-on (a .num .0) (now (a .line)) (l .k) (a .from .0 + a .count .0) (c .before .before .before .loop-test .taken) (sym (ap (checkedOf tt) (c .enum-told .given .1)) ∙ c .before .before .zero-field .ensures)) ∙ l .inv .1)
 
 returns-2 : tie.Need-returns-2 Inv-loop μ-loop
-returns-2 c = let l = c .before .loop in let a = c .before .before .before .before .before .args in
+returns-2 c = let l = c .before .loop in let a = start-before-loop (c .before) .args in
     sym (zeros-done (a .num .0) (now (a .line)) (l .k) (a .from .0 + a .count .0) (omega arith)) ∙ l .inv .1 ∙ ap (zeros (a .num .0) (now (a .line)) (a .from .0)) (add-sub-cancel-left (a .from .0) (a .count .0))
 
 pub zero-fields-spec : {M : Type 1} → statement M

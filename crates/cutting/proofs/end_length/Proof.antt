@@ -9,6 +9,10 @@ use borrow.Author.Needs.{needs}
 use Rattle.cutting.proofs.end_length.Statement.{statement}
 use Rattle.cutting.proofs.end_length.Tie as tie
 
+-- back from one place to another
+abbrev start-before-else3 : tie.Else3 → tie.Start
+start-before-else3 c = c .before .before .before .before .before .before
+
 shared-slice-read-if1 : tie.Need-shared-slice-read-if1
 shared-slice-read-if1 c = search needs
 
@@ -31,16 +35,16 @@ add-after : tie.Need-add-after
 add-after c = search needs
 
 returns-4 : tie.Need-returns-4
-returns-4 c = let s = c .before .before .before .before .before .before .before in (rw (end-at (now (s .args .text)) (s .args .i) (s .pre)) (simp (ne-eqb (getD (now (s .args .text)) (s .args .i) 0) 10 (c .before .before .before .if2 .left), eq-eqb (getD (now (s .args .text)) (s .args .i) 0) 13 (c .before .if3 .left), List·getD-eq-default (now (s .args .text)) 0 (c .if4 .taken))), omega arith)
+returns-4 c = let s = start-before-else3 (c .before) in (rw (end-at (now (s .args .text)) (s .args .i) (s .pre)) (simp (ne-eqb (getD (now (s .args .text)) (s .args .i) 0) 10 (c .before .before .before .if2 .left), eq-eqb (getD (now (s .args .text)) (s .args .i) 0) 13 (c .before .if3 .left), List·getD-eq-default (now (s .args .text)) 0 (c .if4 .taken))), omega arith)
 
 shared-slice-read-if5 : tie.Need-shared-slice-read-if5
 shared-slice-read-if5 c = search needs
 
 returns-5 : tie.Need-returns-5
-returns-5 c = let s = c .before .before .before .before .before .before .before .before .before in (rw (end-at (now (s .args .text)) (s .args .i) (s .pre)) (simp (ne-eqb (getD (now (s .args .text)) (s .args .i) 0) 10 (c .before .before .before .before .before .if2 .left), eq-eqb (getD (now (s .args .text)) (s .args .i) 0) 13 (c .before .before .before .if3 .left), eq-eqb (getD (now (s .args .text)) (s .args .i + 1) 0) 10 (c .if5 .taken))), omega arith)
+returns-5 c = let s = start-before-else3 (c .before .before .before) in (rw (end-at (now (s .args .text)) (s .args .i) (s .pre)) (simp (ne-eqb (getD (now (s .args .text)) (s .args .i) 0) 10 (c .before .before .before .before .before .if2 .left), eq-eqb (getD (now (s .args .text)) (s .args .i) 0) 13 (c .before .before .before .if3 .left), eq-eqb (getD (now (s .args .text)) (s .args .i + 1) 0) 10 (c .if5 .taken))), omega arith)
 
 returns-6 : tie.Need-returns-6
-returns-6 c = let s = c .before .before .before .before .before .before .before .before .before in (rw (end-at (now (s .args .text)) (s .args .i) (s .pre)) (simp (ne-eqb (getD (now (s .args .text)) (s .args .i) 0) 10 (c .before .before .before .before .before .if2 .left), eq-eqb (getD (now (s .args .text)) (s .args .i) 0) 13 (c .before .before .before .if3 .left), ne-eqb (getD (now (s .args .text)) (s .args .i + 1) 0) 10 (c .if5 .left))), omega arith)
+returns-6 c = let s = start-before-else3 (c .before .before .before) in (rw (end-at (now (s .args .text)) (s .args .i) (s .pre)) (simp (ne-eqb (getD (now (s .args .text)) (s .args .i) 0) 10 (c .before .before .before .before .before .if2 .left), eq-eqb (getD (now (s .args .text)) (s .args .i) 0) 13 (c .before .before .before .if3 .left), ne-eqb (getD (now (s .args .text)) (s .args .i + 1) 0) 10 (c .if5 .left))), omega arith)
 
 pub end-length-spec : {M : Type 1} → statement M
 end-length-spec =

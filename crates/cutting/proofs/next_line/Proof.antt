@@ -18,6 +18,10 @@ Inv-loop text plain i₀ i = (i₀ ≤ i) × (i ≤ length text) × (i + lineLen
 abbrev μ-loop : tie.MeasureT-loop
 μ-loop text plain i₀ i = length text - i
 
+-- back from one place to another
+abbrev plain-bytes-before-then1 : tie.Then1 Inv-loop μ-loop → tie.After-plain-bytes Inv-loop μ-loop
+plain-bytes-before-then1 c = c .before .before .before .before .before
+
 -- the plain bytes are of the text
 fits : (c : tie.After-plain-bytes Inv-loop μ-loop) → c .before .before .args .at .0 + c .plain-bytes .result ≤ length (now (c .before .before .args .text))
 fits c = let a = c .before .before .args in omega (arith, c .before .before .pre, c .plain-bytes .ensures, scan-le (within 32 126) (drop (a .at .0) (now (a .text))), length-drop (a .at .0) (now (a .text)))
@@ -38,18 +42,18 @@ add-next : tie.Need-add-next Inv-loop μ-loop
 add-next c = search needs
 
 returns : tie.Need-returns Inv-loop μ-loop
-returns c = let l = c .before .before .before .loop in let s = c .before .before .before .before .before .before .before in let t = now (s .args .text) in
+returns c = let l = c .before .before .before .loop in let s = plain-bytes-before-then1 c .before .before in let t = now (s .args .text) in
     let p : 0 < endLength (drop (l .i) t) = omega arith in
     let q = at-end (drop (l .i) t) p in
     record {
       line = record {
-        cut = cut-behind t (s .args .at .0) (c .before .before .before .before .before .plain-bytes .result) (l .i) (l .i + c .before .end-length .result) (c .before .before .before .before .before .plain-bytes .ensures) (l .inv .0) (s .pre) (omega (arith, q .0)) (omega (arith, q .1));
+        cut = cut-behind t (s .args .at .0) (plain-bytes-before-then1 c .plain-bytes .result) (l .i) (l .i + c .before .end-length .result) (plain-bytes-before-then1 c .plain-bytes .ensures) (l .inv .0) (s .pre) (omega (arith, q .0)) (omega (arith, q .1));
         within = omega arith;
         ahead = omega arith;
         onward = omega arith;
         inside = omega arith;
       };
-      plain = plain-line t (s .args .at .0) (c .before .before .before .before .before .plain-bytes .result) (l .i) (l .i + c .before .end-length .result) (c .before .before .before .before .before .plain-bytes .ensures) (l .inv .0);
+      plain = plain-line t (s .args .at .0) (plain-bytes-before-then1 c .plain-bytes .result) (l .i) (l .i + c .before .end-length .result) (plain-bytes-before-then1 c .plain-bytes .ensures) (l .inv .0);
     }
 
 add-i-2 : tie.Need-add-i-2 Inv-loop μ-loop

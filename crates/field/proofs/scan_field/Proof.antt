@@ -16,6 +16,10 @@ Inv-loop line at s₀ i₀ s i = (i ≤ 6) × Short i s × (scanOf s (columns (6
 abbrev μ-loop : tie.MeasureT-loop
 μ-loop line at s₀ i₀ s i = 6 - i
 
+-- back from one place to another
+abbrev start-before-loop : tie.At-loop Inv-loop μ-loop → tie.Start Inv-loop μ-loop
+start-before-loop c = c .before .before .before .before
+
 returns : tie.Need-returns Inv-loop μ-loop
 returns c = let s = c .before .before in sym (cut-short (now (s .args .line)) (s .args .at) (omega arith))
 
@@ -46,8 +50,8 @@ loop-less c = omega arith
 
 loop-again : tie.Need-loop-again Inv-loop μ-loop
 loop-again c = let l = c .before .before .before .loop in
-    let line = now (c .before .before .before .before .before .before .before .args .line) in
-    let at = c .before .before .before .before .before .before .before .args .at in
+    let line = now (start-before-loop (c .before .before .before) .args .line) in
+    let at = start-before-loop (c .before .before .before) .args .at in
     let read = scan-on line at (l .i) (l .s) (omega arith) (omega arith) in
     (omega arith, rw (add-one, c .step .ensures) (short-step (l .i) (l .s) _ (l .inv .1)), cc (l .inv .2, read, c .step .ensures))
 
@@ -57,7 +61,7 @@ finish-requires c κs = tt
 returns-3 : tie.Need-returns-3 Inv-loop μ-loop
 unfolding readField columns
 returns-3 c = let l = c .before .before .loop in
-    let s = c .before .before .before .before .before .before in
+    let s = start-before-loop (c .before .before) in
     let e : 0 ≡ 6 - l .i = omega arith in
     c .finish .ensures ∙ ap finishOf (ap (λ k. scanOf (l .s) (columns k (now (s .args .line)) (s .args .at + l .i))) e ∙ l .inv .2)
 

@@ -11,6 +11,10 @@ use borrow.Author.Needs.{needs}
 use Rattle.heading.proofs.data_line.Statement.{statement}
 use Rattle.heading.proofs.data_line.Tie as tie
 
+-- back from one place to another
+abbrev start-before-row : tie.After-row → tie.Start
+start-before-row c = c .before .before .before .before .before .before
+
 count-fields-requires : tie.Need-count-fields-requires
 count-fields-requires c κs = search needs
 
@@ -21,10 +25,10 @@ enum-told : tie.Need-enum-told
 enum-told c = search needs
 
 prologue-line-requires : tie.Need-prologue-line-requires
-prologue-line-requires c κs = let a = c .before .before .before .before .before .before .before .before .before .before .before .args in let row = c .before .before .before .before .before .before .count-fields .last .1 .1 .0 in
+prologue-line-requires c κs = let a = start-before-row (c .before .before .before .before .before) .args in let row = c .before .before .before .before .before .before .count-fields .last .1 .1 .0 in
     let low : 16 ≤ getD (take 16 row) 12 0 = counted (a .num .0) (now (a .line)) (take 12 (now (a .row))) (take 16 row) (told (take 16 row) (c .before .before .enum-told .given .1) (c .before .before .before .before .before .before .count-fields .ensures)) in
     let kept : length row ≡ length (now (a .row)) = c .before .before .before .before .before .before .count-fields .kept .1 .1 .0 in
-    (omega (arith, low, getD-take 16 row 12 0 (omega arith)), kept ∙ c .before .before .before .before .before .before .before .before .before .before .before .pre .0, c .before .before .before .before .before .before .before .before .before .before .before .pre .1)
+    (omega (arith, low, getD-take 16 row 12 0 (omega arith)), kept ∙ start-before-row (c .before .before .before .before .before) .pre .0, start-before-row (c .before .before .before .before .before) .pre .1)
 
 same-length : tie.Need-same-length
 same-length c = search needs

@@ -10,6 +10,10 @@ use borrow.Author.Needs.{needs}
 use Rattle.heading.proofs.kind_line.Statement.{statement}
 use Rattle.heading.proofs.kind_line.Tie as tie
 
+-- back from one place to another
+abbrev start-before-else1 : tie.Else1 → tie.Start
+start-before-else1 c = c .before .before .before .before .before
+
 slice-read-kind : tie.Need-slice-read-kind
 slice-read-kind c = search needs
 
@@ -36,7 +40,7 @@ same-length-4 : tie.Need-same-length-4
 same-length-4 c = search needs
 
 returns-2 : tie.Need-returns-2
-returns-2 c = let a = c .before .before .before .before .before .before .before .before .before .before .before .before .before .args in let row = now (a .row) in let num = a .num .0 in let so = a .so .0 in let l = now (a .line) in
+returns-2 c = let a = start-before-else1 (c .before .before .before .before .before .before .before .before) .args in let row = now (a .row) in let num = a .num .0 in let so = a .so .0 in let l = now (a .line) in
     same-step (headerLine num so l (take 12 row)) (kindLine num so l (take 12 row)) (sym (kind-is num so l row ∙ simp (ne-eqb (getD row 1 0) 2101 (c .before .before .before .before .before .before .before .before .if1 .left), eq-eqb (getD row 1 0) 3101 (c .before .before .before .before .before .before .before .if2 .taken)))) (c .before .before .before .before .header-line .ensures)
 
 data-line-requires : tie.Need-data-line-requires
@@ -49,11 +53,11 @@ same-length-6 : tie.Need-same-length-6
 same-length-6 c = search needs
 
 returns-3 : tie.Need-returns-3
-returns-3 c = let a = c .before .before .before .before .before .before .before .before .before .before .before .before .before .before .args in let row = now (a .row) in let num = a .num .0 in let so = a .so .0 in let l = now (a .line) in
+returns-3 c = let a = start-before-else1 (c .before .before .before .before .before .before .before .before .before) .args in let row = now (a .row) in let num = a .num .0 in let so = a .so .0 in let l = now (a .line) in
     same-step (dataLine num so l (take 12 row)) (kindLine num so l (take 12 row)) (sym (kind-is num so l row ∙ simp (ne-eqb (getD row 1 0) 2101 (c .before .before .before .before .before .before .before .before .before .if1 .left), ne-eqb (getD row 1 0) 3101 (c .before .before .before .before .before .before .before .before .if2 .left), eq-eqb (getD row 1 0) 1101 (c .before .before .before .before .before .before .before .if3 .taken)))) (c .before .before .before .before .data-line .ensures)
 
 returns-4 : tie.Need-returns-4
-returns-4 c = let a = c .before .before .before .before .before .before .before .args in let row = now (a .row) in let num = a .num .0 in let so = a .so .0 in let l = now (a .line) in
+returns-4 c = let a = start-before-else1 (c .before .before) .args in let row = now (a .row) in let num = a .num .0 in let so = a .so .0 in let l = now (a .line) in
     stops (kindLine num so l (take 12 row)) (Kind (a .num)) (sym (kind-is num so l row ∙ simp (ne-eqb (getD row 1 0) 2101 (c .before .before .if1 .left), ne-eqb (getD row 1 0) 3101 (c .before .if2 .left), ne-eqb (getD row 1 0) 1101 (c .if3 .left))))
 
 pub kind-line-spec : {M : Type 1} → statement M

@@ -12,6 +12,13 @@ use borrow.Author.Needs.{needs}
 use Rattle.heading.proofs.prologue_fields.Statement.{statement}
 use Rattle.heading.proofs.prologue_fields.Tie as tie
 
+-- back from one place to another
+abbrev start-before-blank-after : tie.After-blank-after → tie.Start
+start-before-blank-after c = c .before .before .before .before .before .before .before .before .before .before .before
+
+abbrev read-numbers-before-blank-after : tie.After-blank-after → tie.After-read-numbers
+read-numbers-before-blank-after c = c .before .before .before .before .before .before
+
 sub-more : tie.Need-sub-more
 sub-more c = search needs
 
@@ -42,12 +49,12 @@ same-length-2 : tie.Need-same-length-2
 same-length-2 c = search needs
 
 returns-2 : tie.Need-returns-2
-returns-2 c = let a = c .before .before .before .before .before .before .before .before .before .before .before .args in let num = a .num .0 in let l = now (a .line) in let n = a .used .0 in let row = c .before .before .before .before .before .before .read-numbers .last .1 .1 .1 .1 .0 in
+returns-2 c = let a = start-before-blank-after c .args in let num = a .num .0 in let l = now (a .line) in let n = a .used .0 in let row = read-numbers-before-blank-after c .read-numbers .last .1 .1 .1 .1 .0 in
     let e : c .before .columns-of-fields .result .0 ≡ 6 * n = omega (arith, c .before .columns-of-fields .ensures) in
-    let f : n ≡ 16 + (n - 16) = omega (arith, c .before .before .before .before .before .before .before .before .before .before .before .pre .1) in
+    let f : n ≡ 16 + (n - 16) = omega (arith, start-before-blank-after c .pre .1) in
     checked-on (take n row) (c .blank-after .result) (blankAfter num l (6 * n)) (c .blank-after .ensures ∙ ap (blankAfter num l) e)
-    ∙ good-read (take 16 (now (a .row))) (λ r. onward (blankAfter num l (6 * n)) (λ _. passed r)) (numbers num l 16 (n - 16)) (take n row) (c .before .before .enum-told .given .1) (ap (λ k. checkedOf (take k row) (c .before .before .before .before .before .before .read-numbers .result)) f ∙ c .before .before .before .before .before .before .read-numbers .ensures)
-    ∙ sym (prologue-is num l (now (a .row)) n (c .before .before .before .before .before .before .before .before .before .before .before .pre .0))
+    ∙ good-read (take 16 (now (a .row))) (λ r. onward (blankAfter num l (6 * n)) (λ _. passed r)) (numbers num l 16 (n - 16)) (take n row) (c .before .before .enum-told .given .1) (ap (λ k. checkedOf (take k row) (read-numbers-before-blank-after c .read-numbers .result)) f ∙ read-numbers-before-blank-after c .read-numbers .ensures)
+    ∙ sym (prologue-is num l (now (a .row)) n (start-before-blank-after c .pre .0))
 
 pub prologue-fields-spec : {M : Type 1} → statement M
 prologue-fields-spec =

@@ -9,6 +9,10 @@ use borrow.Author.Needs.{needs}
 use Rattle.heading.proofs.prologue_line.Statement.{statement}
 use Rattle.heading.proofs.prologue_line.Tie as tie
 
+-- back from one place to another
+abbrev start-before-row : tie.After-row → tie.Start
+start-before-row c = c .before .before .before .before .before .before .before .before .before
+
 slice-read-words-said : tie.Need-slice-read-words-said
 slice-read-words-said c = search needs
 
@@ -28,11 +32,11 @@ enum-told : tie.Need-enum-told
 enum-told c = search needs
 
 plan-line-requires : tie.Need-plan-line-requires
-plan-line-requires c κs = let a = c .before .before .before .before .before .before .before .before .before .before .before .before .before .before .args in let row = c .before .before .before .before .before .before .prologue-fields .last .1 .1 .1 .0 in let used = c .before .before .before .before .before .before .before .before .on-line .result .0 in
-    let low : 16 ≤ used = omega (arith, c .before .before .before .before .before .before .before .before .on-line .ensures, c .before .before .before .before .before .before .before .before .before .words-said .ensures .0, c .before .before .before .before .before .before .before .before .before .before .before .before .before .before .pre .0) in
+plan-line-requires c κs = let a = start-before-row (c .before .before .before .before .before) .args in let row = c .before .before .before .before .before .before .prologue-fields .last .1 .1 .1 .0 in let used = c .before .before .before .before .before .before .before .before .on-line .result .0 in
+    let low : 16 ≤ used = omega (arith, c .before .before .before .before .before .before .before .before .on-line .ensures, c .before .before .before .before .before .before .before .before .before .words-said .ensures .0, start-before-row (c .before .before .before .before .before) .pre .0) in
     let kept : length row ≡ length (now (a .row)) = c .before .before .before .before .before .before .prologue-fields .kept .1 .1 .1 .0 in
-    let stays : getD row 12 0 ≡ getD (now (a .row)) 12 0 = lprol-stays (a .num .0) (now (a .line)) (now (a .row)) row used (told (take used row) (c .before .before .enum-told .given .1) (c .before .before .before .before .before .before .prologue-fields .ensures)) low (omega (arith, c .before .before .before .before .before .before .before .before .before .before .before .before .before .before .pre .1)) in
-    (c .before .before .before .before .before .before .before .before .on-line .ensures ∙ ap (λ w. min w 20) (c .before .before .before .before .before .before .before .before .before .words-said .ensures .0 ∙ sym stays), low, kept ∙ c .before .before .before .before .before .before .before .before .before .before .before .before .before .before .pre .1, c .before .before .before .before .before .before .before .before .before .before .before .before .before .before .pre .2)
+    let stays : getD row 12 0 ≡ getD (now (a .row)) 12 0 = lprol-stays (a .num .0) (now (a .line)) (now (a .row)) row used (told (take used row) (c .before .before .enum-told .given .1) (c .before .before .before .before .before .before .prologue-fields .ensures)) low (omega (arith, start-before-row (c .before .before .before .before .before) .pre .1)) in
+    (c .before .before .before .before .before .before .before .before .on-line .ensures ∙ ap (λ w. min w 20) (c .before .before .before .before .before .before .before .before .before .words-said .ensures .0 ∙ sym stays), low, kept ∙ start-before-row (c .before .before .before .before .before) .pre .1, start-before-row (c .before .before .before .before .before) .pre .2)
 
 same-length : tie.Need-same-length
 same-length c = search needs

@@ -9,6 +9,10 @@ use borrow.Author.Needs.{needs}
 use Rattle.keeping.proofs.keep_bytes.Statement.{statement}
 use Rattle.keeping.proofs.keep_bytes.Tie as tie
 
+-- back from one place to another
+abbrev start-before-then2 : tie.Then2 → tie.Start
+start-before-then2 c = c .before .before .before .before
+
 returns : tie.Need-returns
 returns c = let a = c .before .before .before .args in sym (sets-out (now (a .out)) (a .at .0) (now (a .bytes)) (c .if1 .taken))
 
@@ -16,16 +20,16 @@ sub-room : tie.Need-sub-room
 sub-room c = search needs
 
 slice-aggregate-write-text : tie.Need-slice-aggregate-write-text
-slice-aggregate-write-text c = let a = c .before .before .before .before .before .args in sym (length-take-le (length (now (a .out)) - a .at .0) (now (a .bytes)) (omega (arith, c .before .if2 .taken)))
+slice-aggregate-write-text c = let a = start-before-then2 (c .before) .args in sym (length-take-le (length (now (a .out)) - a .at .0) (now (a .bytes)) (omega (arith, c .before .if2 .taken)))
 
 write-text-requires : tie.Need-write-text-requires
-write-text-requires c κs = let a = c .before .before .before .before .before .before .args in omega (arith, length-take-le (length (now (a .out)) - a .at .0) (now (a .bytes)) (omega (arith, c .before .before .if2 .taken)))
+write-text-requires c κs = let a = start-before-then2 (c .before .before) .args in omega (arith, length-take-le (length (now (a .out)) - a .at .0) (now (a .bytes)) (omega (arith, c .before .before .if2 .taken)))
 
 same-length : tie.Need-same-length
 same-length c = search needs
 
 returns-2 : tie.Need-returns-2
-returns-2 c = let a = c .before .before .before .before .before .before .before .before .before .args in c .before .before .write-text .ensures .bytes ∙ sym (sets-cut (now (a .out)) (a .at .0) (length (now (a .out)) - a .at .0) (now (a .bytes)) (omega (arith, c .before .before .before .before .before .if2 .taken)) (omega (arith, c .before .before .before .before .before .before .if1 .left)))
+returns-2 c = let a = start-before-then2 (c .before .before .before .before .before) .args in c .before .before .write-text .ensures .bytes ∙ sym (sets-cut (now (a .out)) (a .at .0) (length (now (a .out)) - a .at .0) (now (a .bytes)) (omega (arith, c .before .before .before .before .before .if2 .taken)) (omega (arith, c .before .before .before .before .before .before .if1 .left)))
 
 write-text-requires-2 : tie.Need-write-text-requires-2
 write-text-requires-2 c κs = search needs

@@ -17,6 +17,13 @@ Inv-loop row out₀ end k₀ to₀ out k to = (length out ≡ length out₀) × 
 abbrev μ-loop : tie.MeasureT-loop
 μ-loop row out₀ end k₀ to₀ out k to = end - k
 
+-- back from one place to another
+abbrev start-before-loop : tie.At-loop Inv-loop μ-loop → tie.Start Inv-loop μ-loop
+start-before-loop c = c .before .before .before .before
+
+abbrev loop-before-out : tie.After-out Inv-loop μ-loop → tie.At-loop Inv-loop μ-loop
+loop-before-out c = c .before .before .before .before .before
+
 returns : tie.Need-returns Inv-loop μ-loop
 returns c = let a = c .before .before .before .args in sym (sets-out (now (a .out)) (a .at .0 * 2) (bytesOf (slice (a .from .0) (a .upto .0) (now (a .row)))) (omega (arith, c .if1 .taken)))
 
@@ -42,17 +49,17 @@ loop-less : tie.Need-loop-less Inv-loop μ-loop
 loop-less c = omega arith
 
 loop-again : tie.Need-loop-again Inv-loop μ-loop
-loop-again c = let l = c .before .before .before .before .before .before .loop in let a = c .before .before .before .before .before .before .before .before .before .before .args in (
+loop-again c = let l = loop-before-out (c .before) .loop in let a = start-before-loop (loop-before-out (c .before)) .args in (
   ap length (c .before .before .keep-word .ensures) ∙ length-sets (l .out) (l .to * 2) (bytesOf (getD (now (a .row)) (l .k) 0 ∷ [])) ∙ l .inv .0,
   omega arith,
-  ap (λ o. sets o ((l .to + 1) * 2) (bytesOf (slice (l .k + 1) (a .upto .0) (now (a .row))))) (c .before .before .keep-word .ensures) ∙ sym (word-on (l .out) (l .to) (l .k) (a .upto .0) (now (a .row)) (c .before .before .before .before .before .loop-test .taken) (c .before .before .before .before .before .before .before .before .before .before .pre .0)) ∙ l .inv .2,
+  ap (λ o. sets o ((l .to + 1) * 2) (bytesOf (slice (l .k + 1) (a .upto .0) (now (a .row))))) (c .before .before .keep-word .ensures) ∙ sym (word-on (l .out) (l .to) (l .k) (a .upto .0) (now (a .row)) (c .before .before .before .before .before .loop-test .taken) (start-before-loop (loop-before-out (c .before)) .pre .0)) ∙ l .inv .2,
 )
 
 same-length : tie.Need-same-length Inv-loop μ-loop
 same-length c = c .before .loop .inv .0
 
 returns-2 : tie.Need-returns-2 Inv-loop μ-loop
-returns-2 c = let l = c .before .loop in let a = c .before .before .before .before .before .args in sym (words-done (l .out) (l .to * 2) (l .k) (a .upto .0) (now (a .row)) (c .loop-test .left)) ∙ l .inv .2
+returns-2 c = let l = c .before .loop in let a = start-before-loop (c .before) .args in sym (words-done (l .out) (l .to * 2) (l .k) (a .upto .0) (now (a .row)) (c .loop-test .left)) ∙ l .inv .2
 
 pub keep-words-spec : {M : Type 1} → statement M
 keep-words-spec =

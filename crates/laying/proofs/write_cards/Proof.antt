@@ -18,31 +18,35 @@ Inv-loop whole out₀ place₀ left₀ to₀ out place left to = (place + left *
 abbrev μ-loop : tie.MeasureT-loop
 μ-loop whole out₀ place₀ left₀ to₀ out place left to = left
 
+-- back from one place to another
+abbrev start-before-part : tie.After-part Inv-loop μ-loop → tie.Start Inv-loop μ-loop
+start-before-part c = c .before .before .before .before .before
+
 -- the next card, and the lines behind it
 abbrev others : tie.After-part Inv-loop μ-loop → List ℕ
-others c = let l = c .before .before .loop in ended (cardLines (l .left - 1) (drop (l .place + 40) (wordsOf (now (c .before .before .before .before .before .args .whole)))))
+others c = let l = c .before .before .loop in ended (cardLines (l .left - 1) (drop (l .place + 40) (wordsOf (now (start-before-part c .args .whole)))))
 
 room : (c : tie.In-loop Inv-loop μ-loop) → let l = c .before .loop in let ws = wordsOf (now (c .before .before .before .before .args .whole)) in
     (l .place + 40 ≤ length ws) × (l .place + 40 + (l .left - 1) * 40 ≤ length ws)
 room c = let l = c .before .loop in let r = rows-left (l .place) 40 (l .left) _ (omega arith) (l .inv .0) in (omega arith, r)
 
 turn : (c : tie.After-part Inv-loop μ-loop) → let l = c .before .before .loop in
-    ended (cardLines (l .left) (drop (l .place) (wordsOf (now (c .before .before .before .before .before .args .whole))))) ≡ now (c .part .result) ++ (10 ∷ others c)
+    ended (cardLines (l .left) (drop (l .place) (wordsOf (now (start-before-part c .args .whole))))) ≡ now (c .part .result) ++ (10 ∷ others c)
 turn c =
     let l = c .before .before .loop in
-    let b = now (c .before .before .before .before .before .args .whole) in
+    let b = now (start-before-part c .args .whole) in
     let r = room (c .before) in
     let h = all-below 256 b (λ i. omega (arith, c .before .before .before .before .shared-slice-known .given i)) in
     card-turn (wordsOf b) (l .place) (l .left) (omega arith)
     ∙ ap (λ t. t ++ (10 ∷ others c)) (sym (c .part .ensures ∙ card-bytes b (l .place) h (omega (arith, length-wordsOf b))))
 
 -- the card is in, and its LF is left
-going : (c : tie.After-write-text Inv-loop μ-loop) → let s = c .before .before .before .before .before .before .before in let ws = wordsOf (now (s .args .whole)) in
+going : (c : tie.After-write-text Inv-loop μ-loop) → let s = start-before-part (c .before .before) in let ws = wordsOf (now (s .args .whole)) in
     Going (now (s .args .out)) (s .args .at .0) (ended (cardLines (s .args .cards .0) (drop (s .args .from .0) ws))) (c .write-text .last .1 .0) (c .write-text .result .0) (10 ∷ others (c .before .before))
 going c = on (c .before .before .before .before .loop .inv .1) _ _ (turn (c .before .before)) (c .write-text .ensures)
 
 end-room : (c : tie.After-write-text Inv-loop μ-loop) → c .write-text .result .0 + 1 ≤ length (c .write-text .last .1 .0)
-end-room c = fits (going c) (10 ∷ []) (others (c .before .before)) refl (c .before .before .before .before .before .before .before .pre .1)
+end-room c = fits (going c) (10 ∷ []) (others (c .before .before)) refl (start-before-part (c .before .before) .pre .1)
 
 loop-holds : tie.Need-loop-holds Inv-loop μ-loop
 loop-holds c = (c .before .before .pre .0, start)
@@ -54,7 +58,7 @@ part-requires : tie.Need-part-requires Inv-loop μ-loop
 part-requires c κs = let r = room c in (omega arith, r .0)
 
 write-text-requires : tie.Need-write-text-requires Inv-loop μ-loop
-write-text-requires c κs = fits (c .before .before .before .loop .inv .1) (now (c .before .part .result)) (10 ∷ others (c .before)) (turn (c .before)) (c .before .before .before .before .before .before .pre .1)
+write-text-requires c κs = fits (c .before .before .before .loop .inv .1) (now (c .before .part .result)) (10 ∷ others (c .before)) (turn (c .before)) (start-before-part (c .before) .pre .1)
 
 slice-write-out : tie.Need-slice-write-out Inv-loop μ-loop
 slice-write-out c = omega (arith, end-room (c .before .before))

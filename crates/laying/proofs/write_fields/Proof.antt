@@ -20,13 +20,17 @@ Inv-loop whole out₀ place₀ left₀ to₀ out place left to = (place + left �
 abbrev μ-loop : tie.MeasureT-loop
 μ-loop whole out₀ place₀ left₀ to₀ out place left to = left
 
+-- back from one place to another
+abbrev start-before-word-at : tie.After-word-at Inv-loop μ-loop → tie.Start Inv-loop μ-loop
+start-before-word-at c = c .before .before .before .before .before .before
+
 -- the next word's field, and the others
-turn : (c : tie.After-word-at Inv-loop μ-loop) → let l = c .before .before .before .loop in let ws = wordsOf (now (c .before .before .before .before .before .before .args .whole)) in
+turn : (c : tie.After-word-at Inv-loop μ-loop) → let l = c .before .before .before .loop in let ws = wordsOf (now (start-before-word-at c .args .whole)) in
     fieldsOf (take (l .left) (drop (l .place) ws)) ≡ fieldOf (c .word-at .result) ++ fieldsOf (take (l .left - 1) (drop (l .place + 1) ws))
-turn c = let l = c .before .before .before .loop in fields-turn (wordsOf (now (c .before .before .before .before .before .before .args .whole))) (l .place) (l .left) (c .word-at .result) (omega arith) (omega arith) (c .word-at .ensures)
+turn c = let l = c .before .before .before .loop in fields-turn (wordsOf (now (start-before-word-at c .args .whole))) (l .place) (l .left) (c .word-at .result) (omega arith) (omega arith) (c .word-at .ensures)
 
 room : (c : tie.After-word-at Inv-loop μ-loop) → c .before .before .before .loop .to + 6 ≤ length (c .before .before .before .loop .out)
-room c = omega (arith, fits (c .before .before .before .loop .inv .1) (fieldOf (c .word-at .result)) _ (turn c) (c .before .before .before .before .before .before .pre .1), length-fieldOf (c .word-at .result))
+room c = omega (arith, fits (c .before .before .before .loop .inv .1) (fieldOf (c .word-at .result)) _ (turn c) (start-before-word-at c .pre .1), length-fieldOf (c .word-at .result))
 
 loop-holds : tie.Need-loop-holds Inv-loop μ-loop
 loop-holds c = (c .before .before .pre .0, start)
@@ -38,7 +42,7 @@ write-field-requires : tie.Need-write-field-requires Inv-loop μ-loop
 write-field-requires c κs = room c
 
 add-place : tie.Need-add-place Inv-loop μ-loop
-add-place c = omega (arith, length-wordsOf (now (c .before .before .before .before .before .before .before .before .before .args .whole)))
+add-place c = omega (arith, length-wordsOf (now (start-before-word-at (c .before .before .before) .args .whole)))
 
 sub-left : tie.Need-sub-left Inv-loop μ-loop
 sub-left c = omega arith

@@ -11,16 +11,20 @@ use borrow.Author.Needs.{needs}
 use Rattle.laying.proofs.write_line.Statement.{statement}
 use Rattle.laying.proofs.write_line.Tie as tie
 
+-- back from one place to another
+abbrev start-before-write-fields : tie.After-write-fields → tie.Start
+start-before-write-fields c = c .before .before .before .before
+
 abbrev fields : tie.Start → List ℕ
 fields s = fieldsOf (take (s .args .count .0) (drop (s .args .from .0) (wordsOf (now (s .args .whole)))))
 
 -- the fields are in, and LF is left
-going : (c : tie.After-write-fields) → let s = c .before .before .before .before in
+going : (c : tie.After-write-fields) → let s = start-before-write-fields c in
     Going (now (s .args .out)) (s .args .at .0) (fields s ++ (10 ∷ [])) (c .write-fields .last .1 .1 .1 .0) (c .write-fields .result .0) (10 ∷ [])
-going c = on start (fields (c .before .before .before .before)) (10 ∷ []) refl (c .write-fields .ensures)
+going c = on start (fields (start-before-write-fields c)) (10 ∷ []) refl (c .write-fields .ensures)
 
 room : (c : tie.After-write-fields) → c .write-fields .result .0 + 1 ≤ length (c .write-fields .last .1 .1 .1 .0)
-room c = fits (going c) (10 ∷ []) [] refl (c .before .before .before .before .pre .1)
+room c = fits (going c) (10 ∷ []) [] refl (start-before-write-fields c .pre .1)
 
 write-fields-requires : tie.Need-write-fields-requires
 write-fields-requires c κs = let s = c .before .before .before in (s .pre .0, fits {o = now (s .args .out)} start (fields s) (10 ∷ []) refl (s .pre .1))

@@ -18,15 +18,19 @@ Inv-loop whole out₀ place₀ left₀ to₀ out place left to = (place + left �
 abbrev μ-loop : tie.MeasureT-loop
 μ-loop whole out₀ place₀ left₀ to₀ out place left to = left
 
+-- back from one place to another
+abbrev start-before-loop : tie.At-loop Inv-loop μ-loop → tie.Start Inv-loop μ-loop
+start-before-loop c = c .before .before .before
+
 -- the next line, and the others
 abbrev line : tie.After-on-line Inv-loop μ-loop → List ℕ
-line c = fieldsOf (take (c .on-line .result .0) (drop (c .before .before .loop .place) (wordsOf (now (c .before .before .before .before .before .args .whole))))) ++ (10 ∷ [])
+line c = fieldsOf (take (c .on-line .result .0) (drop (c .before .before .loop .place) (wordsOf (now (start-before-loop (c .before .before) .args .whole))))) ++ (10 ∷ [])
 
 abbrev others : tie.After-on-line Inv-loop μ-loop → List ℕ
-others c = let n = c .on-line .result .0 in ended (laid (part (c .before .before .loop .left - n)) (drop (c .before .before .loop .place + n) (wordsOf (now (c .before .before .before .before .before .args .whole)))))
+others c = let n = c .on-line .result .0 in ended (laid (part (c .before .before .loop .left - n)) (drop (c .before .before .loop .place + n) (wordsOf (now (start-before-loop (c .before .before) .args .whole)))))
 
-turn : (c : tie.After-on-line Inv-loop μ-loop) → ended (laid (part (c .before .before .loop .left)) (drop (c .before .before .loop .place) (wordsOf (now (c .before .before .before .before .before .args .whole))))) ≡ line c ++ others c
-turn c = let l = c .before .before .loop in rw (c .on-line .ensures) (part-line (wordsOf (now (c .before .before .before .before .before .args .whole))) (l .place) (l .left) (omega arith))
+turn : (c : tie.After-on-line Inv-loop μ-loop) → ended (laid (part (c .before .before .loop .left)) (drop (c .before .before .loop .place) (wordsOf (now (start-before-loop (c .before .before) .args .whole))))) ≡ line c ++ others c
+turn c = let l = c .before .before .loop in rw (c .on-line .ensures) (part-line (wordsOf (now (start-before-loop (c .before .before) .args .whole))) (l .place) (l .left) (omega arith))
 
 -- a line has a field, and no more than are left
 some : (c : tie.After-on-line Inv-loop μ-loop) → (0 < c .on-line .result .0) × (c .on-line .result .0 ≤ c .before .before .loop .left)
@@ -39,10 +43,10 @@ on-line-requires : tie.Need-on-line-requires Inv-loop μ-loop
 on-line-requires c κs = tt
 
 write-line-requires : tie.Need-write-line-requires Inv-loop μ-loop
-write-line-requires c κs = let m = some (c .before) in (omega arith, fits (c .before .before .before .loop .inv .1) (line (c .before)) (others (c .before)) (turn (c .before)) (c .before .before .before .before .before .before .pre .1))
+write-line-requires c κs = let m = some (c .before) in (omega arith, fits (c .before .before .before .loop .inv .1) (line (c .before)) (others (c .before)) (turn (c .before)) (start-before-loop (c .before .before .before) .pre .1))
 
 add-place : tie.Need-add-place Inv-loop μ-loop
-add-place c = let m = some (c .before .before .before .before) in omega (arith, length-wordsOf (now (c .before .before .before .before .before .before .before .before .before .args .whole)))
+add-place c = let m = some (c .before .before .before .before) in omega (arith, length-wordsOf (now (start-before-loop (c .before .before .before .before .before .before) .args .whole)))
 
 sub-left : tie.Need-sub-left Inv-loop μ-loop
 sub-left c = let m = some (c .before .before .before .before) in omega arith

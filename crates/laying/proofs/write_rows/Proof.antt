@@ -18,20 +18,24 @@ Inv-loop whole width rows out₀ each place₀ left₀ to₀ out place left to =
 abbrev μ-loop : tie.MeasureT-loop
 μ-loop whole width rows out₀ each place₀ left₀ to₀ out place left to = left
 
+-- back from one place to another
+abbrev start-before-turn : tie.In-loop Inv-loop μ-loop → tie.Start Inv-loop μ-loop
+start-before-turn c = c .before .before .before .before .before
+
 -- the next row, and the others
 abbrev row : tie.In-loop Inv-loop μ-loop → List ℕ
-row c = ended (laid (part (c .before .before .before .before .before .args .width .0)) (drop (c .before .loop .place) (wordsOf (now (c .before .before .before .before .before .args .whole)))))
+row c = ended (laid (part (start-before-turn c .args .width .0)) (drop (c .before .loop .place) (wordsOf (now (start-before-turn c .args .whole)))))
 
 abbrev others : tie.In-loop Inv-loop μ-loop → List ℕ
-others c = let n = c .before .before .before .before .before .args .width .0 in ended (laid (times (c .before .loop .left - 1) (part n)) (drop (c .before .loop .place + n) (wordsOf (now (c .before .before .before .before .before .args .whole)))))
+others c = let n = start-before-turn c .args .width .0 in ended (laid (times (c .before .loop .left - 1) (part n)) (drop (c .before .loop .place + n) (wordsOf (now (start-before-turn c .args .whole)))))
 
-turn : (c : tie.In-loop Inv-loop μ-loop) → ended (laid (times (c .before .loop .left) (part (c .before .before .before .before .before .args .width .0))) (drop (c .before .loop .place) (wordsOf (now (c .before .before .before .before .before .args .whole))))) ≡ row c ++ others c
-turn c = let l = c .before .loop in row-turn (wordsOf (now (c .before .before .before .before .before .args .whole))) (l .place) (c .before .before .before .before .before .args .width .0) (l .left) (omega arith)
+turn : (c : tie.In-loop Inv-loop μ-loop) → ended (laid (times (c .before .loop .left) (part (start-before-turn c .args .width .0))) (drop (c .before .loop .place) (wordsOf (now (start-before-turn c .args .whole))))) ≡ row c ++ others c
+turn c = let l = c .before .loop in row-turn (wordsOf (now (start-before-turn c .args .whole))) (l .place) (start-before-turn c .args .width .0) (l .left) (omega arith)
 
 -- the rows behind it have their words
-behind : (c : tie.In-loop Inv-loop μ-loop) → let n = c .before .before .before .before .before .args .width .0 in
-    c .before .loop .place + n + (c .before .loop .left - 1) * n ≤ length (wordsOf (now (c .before .before .before .before .before .args .whole)))
-behind c = let l = c .before .loop in rows-left (l .place) (c .before .before .before .before .before .args .width .0) (l .left) _ (omega arith) (l .inv .0)
+behind : (c : tie.In-loop Inv-loop μ-loop) → let n = start-before-turn c .args .width .0 in
+    c .before .loop .place + n + (c .before .loop .left - 1) * n ≤ length (wordsOf (now (start-before-turn c .args .whole)))
+behind c = let l = c .before .loop in rows-left (l .place) (start-before-turn c .args .width .0) (l .left) _ (omega arith) (l .inv .0)
 
 returns : tie.Need-returns Inv-loop μ-loop
 returns c = done start (no-width (drop (c .before .before .before .args .from .0) (wordsOf (now (c .before .before .before .args .whole)))) (c .before .before .before .args .width .0) (c .before .before .before .args .rows) (c .if1 .taken))
@@ -40,10 +44,10 @@ loop-holds : tie.Need-loop-holds Inv-loop μ-loop
 loop-holds c = (c .before .before .before .pre .0, start)
 
 write-part-requires : tie.Need-write-part-requires Inv-loop μ-loop
-write-part-requires c κs = (omega (arith, behind (c .before)), fits (c .before .before .loop .inv .1) (row (c .before)) (others (c .before)) (turn (c .before)) (c .before .before .before .before .before .before .pre .1))
+write-part-requires c κs = (omega (arith, behind (c .before)), fits (c .before .before .loop .inv .1) (row (c .before)) (others (c .before)) (turn (c .before)) (start-before-turn (c .before) .pre .1))
 
 add-place : tie.Need-add-place Inv-loop μ-loop
-add-place c = omega (arith, behind (c .before .before .before .before), length-wordsOf (now (c .before .before .before .before .before .before .before .before .before .args .whole)))
+add-place c = omega (arith, behind (c .before .before .before .before), length-wordsOf (now (start-before-turn (c .before .before .before .before) .args .whole)))
 
 sub-left : tie.Need-sub-left Inv-loop μ-loop
 sub-left c = omega arith

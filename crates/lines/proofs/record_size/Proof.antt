@@ -16,6 +16,13 @@ use borrow.Author.Needs.{needs}
 use Rattle.lines.proofs.record_size.Statement.{statement}
 use Rattle.lines.proofs.record_size.Tie as tie
 
+-- back from one place to another
+abbrev start-before-word-at : tie.After-word-at → tie.Start
+start-before-word-at c = c .before .before .before .before .before
+
+abbrev count-before-else1 : tie.Else1 → tie.After-count
+count-before-else1 c = c .before .before .before .before
+
 abbrev ws : tie.Start → List ℕ
 ws s = wordsOf (now (s .args .whole))
 
@@ -23,17 +30,17 @@ known : (s : tie.Start) → Sized (ws s)
 known s = sized (ws s) (s .pre .0)
 
 -- the size by the record's kind
-data-bytes : (c : tie.Then1) → length (ended (linesOf (ws (c .before .before .before .before .before .before)))) ≡ 6 * length (ws (c .before .before .before .before .before .before)) + lineCount (ws (c .before .before .before .before .before .before))
-data-bytes c = known (c .before .before .before .before .before .before) .bytes ∙ data-size (ws (c .before .before .before .before .before .before)) (ap (λ k. eqb k 1002) (sym (c .before .word-at .ensures) ∙ c .if1 .taken))
+data-bytes : (c : tie.Then1) → length (ended (linesOf (ws (start-before-word-at (c .before))))) ≡ 6 * length (ws (start-before-word-at (c .before))) + lineCount (ws (start-before-word-at (c .before)))
+data-bytes c = known (start-before-word-at (c .before)) .bytes ∙ data-size (ws (start-before-word-at (c .before))) (ap (λ k. eqb k 1002) (sym (c .before .word-at .ensures) ∙ c .if1 .taken))
 
-not-data : (c : tie.Else1) → word (ws (c .before .before .before .before .before .before)) 2 ≡ 1002 → ⊥
+not-data : (c : tie.Else1) → word (ws (start-before-word-at (c .before))) 2 ≡ 1002 → ⊥
 not-data c e = c .if1 .left (c .before .word-at .ensures ∙ e)
 
-cards-bytes : (c : tie.Else1) → length (ended (linesOf (ws (c .before .before .before .before .before .before)))) ≡ 120 + (length (ws (c .before .before .before .before .before .before)) - 40) * 2 + lineCount (ws (c .before .before .before .before .before .before))
-cards-bytes c = known (c .before .before .before .before .before .before) .bytes ∙ cards-size (ws (c .before .before .before .before .before .before)) (ne-eqb (word (ws (c .before .before .before .before .before .before)) 2) 1002 (not-data c))
+cards-bytes : (c : tie.Else1) → length (ended (linesOf (ws (start-before-word-at (c .before))))) ≡ 120 + (length (ws (start-before-word-at (c .before))) - 40) * 2 + lineCount (ws (start-before-word-at (c .before)))
+cards-bytes c = known (start-before-word-at (c .before)) .bytes ∙ cards-size (ws (start-before-word-at (c .before))) (ne-eqb (word (ws (start-before-word-at (c .before))) 2) 1002 (not-data c))
 
-least : (c : tie.Else1) → 40 ≤ length (ws (c .before .before .before .before .before .before))
-least c = is-cards (ws (c .before .before .before .before .before .before)) (c .before .before .before .before .before .before .pre .0) (not-data c) .least
+least : (c : tie.Else1) → 40 ≤ length (ws (start-before-word-at (c .before)))
+least c = is-cards (ws (start-before-word-at (c .before))) (start-before-word-at (c .before) .pre .0) (not-data c) .least
 
 count-requires : tie.Need-count-requires
 count-requires c κs = search needs
@@ -51,13 +58,13 @@ columns-of-fields-requires : tie.Need-columns-of-fields-requires
 columns-of-fields-requires c κs = search needs
 
 add-size : tie.Need-add-size
-add-size c = omega (arith, data-bytes (c .before), known (c .before .before .before .before .before .before .before) .bytes, known (c .before .before .before .before .before .before .before) .size-most, c .columns-of-fields .ensures, c .before .before .before .ends-of-lines .ensures, c .before .before .before .before .line-count .ensures, c .before .before .before .before .before .count .ensures)
+add-size c = omega (arith, data-bytes (c .before), known (start-before-word-at (c .before .before)) .bytes, known (start-before-word-at (c .before .before)) .size-most, c .columns-of-fields .ensures, c .before .before .before .ends-of-lines .ensures, c .before .before .before .before .line-count .ensures, c .before .before .before .before .before .count .ensures)
 
 returns : tie.Need-returns
 returns c = omega (arith, data-bytes (c .before), c .columns-of-fields .ensures, c .before .before .before .ends-of-lines .ensures, c .before .before .before .before .line-count .ensures, c .before .before .before .before .before .count .ensures)
 
 sub-behind : tie.Need-sub-behind
-sub-behind c = omega (arith, least (c .before), c .before .before .before .before .before .count .ensures)
+sub-behind c = omega (arith, least (c .before), count-before-else1 (c .before) .count .ensures)
 
 columns-of-fields-requires-2 : tie.Need-columns-of-fields-requires-2
 columns-of-fields-requires-2 c κs = search needs
@@ -69,10 +76,10 @@ add-size-2 : tie.Need-add-size-2
 add-size-2 c = search needs
 
 add-size-3 : tie.Need-add-size-3
-add-size-3 c = omega (arith, known (c .before .before .before .before .before .before .before .before .before) .count-most, c .before .columns-of-fields2 .ensures, c .bytes-of-words .ensures, c .before .before .before .before .before .ends-of-lines .ensures, c .before .before .before .before .before .before .line-count .ensures, c .before .before .before .before .before .before .before .count .ensures)
+add-size-3 c = omega (arith, known (start-before-word-at (c .before .before .before .before)) .count-most, c .before .columns-of-fields2 .ensures, c .bytes-of-words .ensures, c .before .before .before .before .before .ends-of-lines .ensures, c .before .before .before .before .before .before .line-count .ensures, count-before-else1 (c .before .before .before) .count .ensures)
 
 returns-2 : tie.Need-returns-2
-returns-2 c = omega (arith, cards-bytes (c .before .before .before), c .before .columns-of-fields2 .ensures, c .bytes-of-words .ensures, c .before .before .before .before .before .ends-of-lines .ensures, c .before .before .before .before .before .before .line-count .ensures, c .before .before .before .before .before .before .before .count .ensures)
+returns-2 c = omega (arith, cards-bytes (c .before .before .before), c .before .columns-of-fields2 .ensures, c .bytes-of-words .ensures, c .before .before .before .before .before .ends-of-lines .ensures, c .before .before .before .before .before .before .line-count .ensures, count-before-else1 (c .before .before .before) .count .ensures)
 
 pub record-size-spec : {M : Type 1} → statement M
 record-size-spec =

@@ -22,6 +22,16 @@ Inv-loop block at₀ bytes₀ at bytes = (rs : List (List ℕ)) × Left (wordsOf
 abbrev μ-loop : tie.MeasureT-loop
 μ-loop block at₀ bytes₀ at bytes = length (wordsOf block) - at
 
+-- back from one place to another
+abbrev start-before-part : tie.After-part Inv-loop μ-loop → tie.Start Inv-loop μ-loop
+start-before-part c = c .before .before .before .before .before .before .before .before
+
+abbrev loop-before-record-size : tie.After-record-size Inv-loop μ-loop → tie.At-loop Inv-loop μ-loop
+loop-before-record-size c = c .before .before .before .before .before .before .before
+
+abbrev place-before-record-size : tie.After-record-size Inv-loop μ-loop → tie.After-place Inv-loop μ-loop
+place-before-record-size c = c .before .before .before .before
+
 bytes-of : (c : tie.After-shared-slice-known Inv-loop μ-loop) → Below 256 (now (c .before .args .block))
 bytes-of c = all-below 256 (now (c .before .args .block)) (λ i. omega (arith, c .shared-slice-known .given i))
 
@@ -31,14 +41,14 @@ found : (c : tie.After-place Inv-loop μ-loop) → let p = c .place .given .0 in
 found c = turn _ _ _ _ _ (c .before .before .before .loop .inv .1) (sym (c .before .before .step .ensures) ∙ c .place .given .1)
 
 words-are : (c : tie.After-part Inv-loop μ-loop) → wordsOf (now (c .part .result)) ≡ found (c .before .before .before) .first
-words-are c = turn-words (now (c .before .before .before .before .before .before .before .before .args .block)) _ _ _ _ _ (found (c .before .before .before)) (c .part .ensures)
+words-are c = turn-words (now (start-before-part c .args .block)) _ _ _ _ _ (found (c .before .before .before)) (c .part .ensures)
 
 -- the record's bytes, and those of the others
-split : (c : tie.After-record-size Inv-loop μ-loop) → let t = found (c .before .before .before .before) in
-    length (textOf (c .before .before .before .before .before .before .before .loop .inv .0)) ≡ c .record-size .result .0 + length (textOf (t .others))
+split : (c : tie.After-record-size Inv-loop μ-loop) → let t = found (place-before-record-size c) in
+    length (textOf (loop-before-record-size c .loop .inv .0)) ≡ c .record-size .result .0 + length (textOf (t .others))
 unfolding textOf
 split c =
-    let t = found (c .before .before .before .before) in
+    let t = found (place-before-record-size c) in
     ap (λ rs. length (textOf rs)) (t .are)
     ∙ length-append (ended (linesOf (t .first))) (textOf (t .others))
     ∙ ap (λ k. k + length (textOf (t .others))) (sym (c .record-size .ensures ∙ ap (λ l. length (ended (linesOf l))) (words-are (c .before))))
@@ -69,16 +79,16 @@ part-requires c κs = let t = found (c .before .before) in (omega arith, omega a
 
 record-size-requires : tie.Need-record-size-requires Inv-loop μ-loop
 record-size-requires c κs = let t = found (c .before .before .before) in
-    (rw (words-are c) (t .ok), omega (arith, ap length (words-are c), t .size-is, t .within, most-words (now (c .before .before .before .before .before .before .before .before .args .block)) (c .before .before .before .before .before .before .before .before .pre .count) (bytes-of (c .before .before .before .before .before .before .before)) (c .before .before .before .before .before .before .before .before .pre .is)))
+    (rw (words-are c) (t .ok), omega (arith, ap length (words-are c), t .size-is, t .within, most-words (now (start-before-part c .args .block)) (start-before-part c .pre .count) (bytes-of (c .before .before .before .before .before .before .before)) (start-before-part c .pre .is)))
 
 add-bytes : tie.Need-add-bytes Inv-loop μ-loop
-add-bytes c = omega (arith, split (c .before), c .before .before .before .before .before .before .before .before .loop .inv .2, text-bound (now (c .before .before .before .before .before .before .before .before .before .before .args .block)) (bytes-of (c .before .before .before .before .before .before .before .before .before)) (c .before .before .before .before .before .before .before .before .before .before .pre))
+add-bytes c = omega (arith, split (c .before), loop-before-record-size (c .before) .loop .inv .2, text-bound (now (start-before-part (c .before .before) .args .block)) (bytes-of (loop-before-record-size (c .before) .before)) (start-before-part (c .before .before) .pre))
 
 loop-less : tie.Need-loop-less Inv-loop μ-loop
-loop-less c = let t = found (c .before .before .before .before .before) in omega arith
+loop-less c = let t = found (place-before-record-size (c .before)) in omega arith
 
 loop-again : tie.Need-loop-again Inv-loop μ-loop
-loop-again c = let t = found (c .before .before .before .before .before) in (t .others, t .left, omega (arith, split (c .before), c .before .before .before .before .before .before .before .before .loop .inv .2))
+loop-again c = let t = found (place-before-record-size (c .before)) in (t .others, t .left, omega (arith, split (c .before), loop-before-record-size (c .before) .loop .inv .2))
 
 pub text-size-spec : {M : Type 1} → statement M
 text-size-spec =

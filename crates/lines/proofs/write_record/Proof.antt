@@ -15,6 +15,10 @@ use borrow.Author.Needs.{needs}
 use Rattle.lines.proofs.write_record.Statement.{statement}
 use Rattle.lines.proofs.write_record.Tie as tie
 
+-- back from one place to another
+abbrev start-before-else1 : tie.Else1 → tie.Start
+start-before-else1 c = c .before .before .before .before .before
+
 abbrev ws : tie.Start → List ℕ
 ws s = wordsOf (now (s .args .whole))
 
@@ -22,8 +26,8 @@ known : (s : tie.Start) → Sized (ws s)
 known s = sized (ws s) (s .pre .0)
 
 -- the record is no Data record: its head and its cards
-cards : (c : tie.Else1) → Cards (ws (c .before .before .before .before .before))
-cards c = is-cards (ws (c .before .before .before .before .before)) (c .before .before .before .before .before .pre .0) (λ e. c .if1 .left (c .before .word-at .ensures ∙ e))
+cards : (c : tie.Else1) → Cards (ws (start-before-else1 c))
+cards c = is-cards (ws (start-before-else1 c)) (start-before-else1 c .pre .0) (λ e. c .if1 .left (c .before .word-at .ensures ∙ e))
 
 abbrev head : tie.After-kind-shown → List ℕ
 head c = fieldsOf (take 20 (c .before .before .before .line-count .result .0 ∷ (c .kind-shown .result ∷ drop 2 (ws (c .before .before .before .before .before .before))))) ++ (10 ∷ [])
@@ -36,7 +40,7 @@ pieces c =
     rw (c .before .before .before .line-count .ensures, c .kind-shown .ensures, c .before .before .word-at .ensures)
     (cards-are (ws (c .before .before .before .before .before .before)) (λ e. c .before .if1 .left (c .before .before .word-at .ensures ∙ e)))
 
-left : (c : tie.After-write-head) → let k = c .before .before in let s = c .before .before .before .before .before .before .before .before in
+left : (c : tie.After-write-head) → let k = c .before .before in let s = start-before-else1 (c .before .before .before) in
     Going (now (s .args .out)) (s .args .at .0) (ended (linesOf (ws s))) (c .write-head .last .1 .1 .1 .1 .0) (c .write-head .result .0) (behind k)
 left c = on start (head (c .before .before)) (behind (c .before .before)) (pieces (c .before .before)) (c .write-head .ensures)
 
@@ -67,11 +71,11 @@ kind-shown-requires : tie.Need-kind-shown-requires
 kind-shown-requires c κs = search needs
 
 write-head-requires : tie.Need-write-head-requires
-write-head-requires c κs = let k = cards (c .before .before) in (omega arith, omega (arith, k .least), fits {o = now (c .before .before .before .before .before .before .before .args .out)} start (head (c .before)) (behind (c .before)) (pieces (c .before)) (c .before .before .before .before .before .before .before .pre .2))
+write-head-requires c κs = let k = cards (c .before .before) in (omega arith, omega (arith, k .least), fits {o = now (start-before-else1 (c .before .before) .args .out)} start (head (c .before)) (behind (c .before)) (pieces (c .before)) (start-before-else1 (c .before .before) .pre .2))
 
 write-cards-requires : tie.Need-write-cards-requires
 write-cards-requires c κs = let k = cards (c .before .before .before .before .before .before) in
-    (omega (arith, c .before .before .before .before .before .before .before .before .line-count .ensures, k .count, k .whole, k .least), fits (left (c .before .before .before)) (behind (c .before .before .before .before .before)) [] (sym (append-nil (behind (c .before .before .before .before .before)))) (c .before .before .before .before .before .before .before .before .before .before .before .pre .2))
+    (omega (arith, c .before .before .before .before .before .before .before .before .line-count .ensures, k .count, k .whole, k .least), fits (left (c .before .before .before)) (behind (c .before .before .before .before .before)) [] (sym (append-nil (behind (c .before .before .before .before .before)))) (start-before-else1 (c .before .before .before .before .before .before) .pre .2))
 
 same-length-2 : tie.Need-same-length-2
 same-length-2 c = search needs

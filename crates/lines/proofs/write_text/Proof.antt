@@ -7,6 +7,10 @@ use borrow.Author.Needs.{needs}
 use Rattle.lines.proofs.write_text.Statement.{statement}
 use Rattle.lines.proofs.write_text.Tie as tie
 
+-- back from one place to another
+abbrev start-before-else1 : tie.Else1 → tie.Start
+start-before-else1 c = c .before .before .before .before
+
 text-size-requires : tie.Need-text-size-requires
 text-size-requires c κs = search needs
 
@@ -14,13 +18,13 @@ returns : tie.Need-returns
 returns c = too-short (now (c .before .before .before .before .args .text)) (textOf (recordsOf (now (c .before .before .before .before .args .block)))) (c .before .text-size .result .0) (c .before .text-size .ensures) (c .if1 .taken)
 
 write-records-requires : tie.Need-write-records-requires
-write-records-requires c κs = (c .before .before .before .before .before .pre, omega (arith, c .before .before .text-size .ensures))
+write-records-requires c κs = (start-before-else1 (c .before) .pre, omega (arith, c .before .before .text-size .ensures))
 
 same-length : tie.Need-same-length
 same-length c = search needs
 
 returns-2 : tie.Need-returns-2
-returns-2 c = all-written (now (c .before .before .before .before .before .before .before .before .args .text)) (textOf (recordsOf (now (c .before .before .before .before .before .before .before .before .args .block)))) (omega (arith, c .before .before .before .before .before .text-size .ensures)) (c .before .before .write-records .ensures)
+returns-2 c = all-written (now (start-before-else1 (c .before .before .before .before) .args .text)) (textOf (recordsOf (now (start-before-else1 (c .before .before .before .before) .args .block)))) (omega (arith, c .before .before .before .before .before .text-size .ensures)) (c .before .before .write-records .ensures)
 
 pub write-text-spec : {M : Type 1} → statement M
 write-text-spec =

@@ -15,6 +15,16 @@ use borrow.Author.Needs.{needs}
 use Rattle.listed.proofs.write_row.Statement.{statement}
 use Rattle.listed.proofs.write_row.Tie as tie
 
+-- back from one place to another
+abbrev start-before-line-count : tie.After-line-count → tie.Start
+start-before-line-count c = c .before .before .before .before .before .before .before
+
+abbrev line-count-before-write-number : tie.After-write-number → tie.After-line-count
+line-count-before-write-number c = c .before .before .before .before
+
+abbrev write-number-before-write-spaced : tie.After-write-spaced → tie.After-write-number
+write-number-before-write-spaced c = c .before .before .before .before .before
+
 abbrev ws : tie.Start → List ℕ
 ws s = wordsOf (now (s .args .whole))
 
@@ -30,13 +40,13 @@ pieces c = let a = c .before .before .before .before .before .before .before .be
     rw (c .word-at2 .ensures, c .before .before .line-count .ensures, c .before .before .before .before .count .ensures, c .before .before .before .before .before .word-at .ensures) (row-pieces (a .number) (a .before .0) (ws (c .before .before .before .before .before .before .before .before .before)))
 
 -- what is left after the number, and after the four others
-left-1 : (c : tie.After-write-number) → let w = c .before .before in let s = c .before .before .before .before .before .before .before .before .before .before .before in let a = s .args in
+left-1 : (c : tie.After-write-number) → let w = c .before .before in let s = start-before-line-count (line-count-before-write-number c) in let a = s .args in
     Going (now (a .out)) (a .at .0) (rowOf (a .number) (a .before .0) (ws s)) (c .write-number .last .1 .0) (c .write-number .result .0) (spaced (four w) ++ ending (w .word-at2 .result))
 left-1 c = on start _ _ (pieces (c .before .before)) (c .write-number .ensures)
 
-left-2 : (c : tie.After-write-spaced) → let w = c .before .before .before .before .before .before .before in let s = c .before .before .before .before .before .before .before .before .before .before .before .before .before .before .before .before in let a = s .args in
+left-2 : (c : tie.After-write-spaced) → let w = write-number-before-write-spaced c .before .before in let s = start-before-line-count (line-count-before-write-number (write-number-before-write-spaced c)) in let a = s .args in
     Going (now (a .out)) (a .at .0) (rowOf (a .number) (a .before .0) (ws s)) (c .write-spaced .last .1 .0) (c .write-spaced .result .0) (ending (w .word-at2 .result))
-left-2 c = on (left-1 (c .before .before .before .before .before)) _ _ refl (c .write-spaced .ensures)
+left-2 c = on (left-1 (write-number-before-write-spaced c)) _ _ refl (c .write-spaced .ensures)
 
 add-position : tie.Need-add-position
 add-position c = search needs
@@ -60,22 +70,22 @@ line-count-requires : tie.Need-line-count-requires
 line-count-requires c κs = long (c .before .before .before .before .before .before)
 
 cast-lines : tie.Need-cast-lines
-cast-lines c = omega (arith, c .before .line-count .ensures, lines-most (ws (c .before .before .before .before .before .before .before .before)) (c .before .before .before .before .before .before .before .before .pre .1))
+cast-lines c = omega (arith, c .before .line-count .ensures, lines-most (ws (start-before-line-count (c .before))) (start-before-line-count (c .before) .pre .1))
 
 word-at-requires-2 : tie.Need-word-at-requires-2
-word-at-requires-2 c κs = omega (arith, long (c .before .before .before .before .before .before .before .before))
+word-at-requires-2 c κs = omega (arith, long (start-before-line-count (c .before)))
 
 write-number-requires : tie.Need-write-number-requires
-write-number-requires c κs = fits {o = now (c .before .before .before .before .before .before .before .before .before .before .args .out)} start (decimalOf (c .before .before .before .before .before .before .before .before .before .before .args .number)) _ (pieces (c .before)) (c .before .before .before .before .before .before .before .before .before .before .pre .3)
+write-number-requires c κs = fits {o = now (start-before-line-count (c .before .before .before) .args .out)} start (decimalOf (start-before-line-count (c .before .before .before) .args .number)) _ (pieces (c .before)) (start-before-line-count (c .before .before .before) .pre .3)
 
 slice-aggregate-write-spaced : tie.Need-slice-aggregate-write-spaced
 slice-aggregate-write-spaced c = search needs
 
 write-spaced-requires : tie.Need-write-spaced-requires
-write-spaced-requires c κs = fits (left-1 (c .before .before .before .before)) (spaced (four (c .before .before .before .before .before .before))) _ refl (c .before .before .before .before .before .before .before .before .before .before .before .before .before .before .before .pre .3)
+write-spaced-requires c κs = fits (left-1 (c .before .before .before .before)) (spaced (four (c .before .before .before .before .before .before))) _ refl (start-before-line-count (line-count-before-write-number (c .before .before .before .before)) .pre .3)
 
 write-instrument-requires : tie.Need-write-instrument-requires
-write-instrument-requires c κs = omega (arith, left-2 (c .before .before .before) .total, left-2 (c .before .before .before) .kept, c .before .before .before .before .before .before .before .before .before .before .before .before .before .before .before .before .before .before .before .pre .3)
+write-instrument-requires c κs = omega (arith, left-2 (c .before .before .before) .total, left-2 (c .before .before .before) .kept, start-before-line-count (line-count-before-write-number (write-number-before-write-spaced (c .before .before .before))) .pre .3)
 
 same-length : tie.Need-same-length
 same-length c = search needs

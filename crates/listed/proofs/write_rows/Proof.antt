@@ -21,6 +21,16 @@ Inv-loop block out₀ at₀ number₀ to₀ out at number to = (number ≤ at) �
 abbrev μ-loop : tie.MeasureT-loop
 μ-loop block out₀ at₀ number₀ to₀ out at number to = length (wordsOf block) - at
 
+-- back from one place to another
+abbrev shared-slice-known-before-part : tie.After-part Inv-loop μ-loop → tie.After-shared-slice-known Inv-loop μ-loop
+shared-slice-known-before-part c = c .before .before .before .before .before .before .before .before
+
+abbrev loop-before-part : tie.After-part Inv-loop μ-loop → tie.At-loop Inv-loop μ-loop
+loop-before-part c = c .before .before .before .before .before .before
+
+abbrev place-before-out : tie.After-out Inv-loop μ-loop → tie.After-place Inv-loop μ-loop
+place-before-out c = c .before .before .before .before .before .before
+
 few : (c : tie.After-shared-slice-known Inv-loop μ-loop) → length (wordsOf (now (c .before .args .block))) ≤ 8000
 few c = let b = now (c .before .args .block) in most-words b (c .before .pre .0 .count) (all-below 256 b (λ i. omega (arith, c .shared-slice-known .given i))) (c .before .pre .0 .is)
 
@@ -30,12 +40,12 @@ found : (c : tie.After-place Inv-loop μ-loop) → let p = c .place .given .0 in
 found c = turn _ _ _ _ _ (c .before .before .before .loop .inv .2) (sym (c .before .before .step .ensures) ∙ c .place .given .1)
 
 words-are : (c : tie.After-part Inv-loop μ-loop) → wordsOf (now (c .part .result)) ≡ found (c .before .before .before) .first
-words-are c = turn-words (now (c .before .before .before .before .before .before .before .before .before .args .block)) _ _ _ _ _ (found (c .before .before .before)) (c .part .ensures)
+words-are c = turn-words (now (shared-slice-known-before-part c .before .args .block)) _ _ _ _ _ (found (c .before .before .before)) (c .part .ensures)
 
 -- the record's line, and those of the others
-split : (c : tie.After-part Inv-loop μ-loop) → let l = c .before .before .before .before .before .before .loop in let p = c .before .before .before .place .given .0 in
+split : (c : tie.After-part Inv-loop μ-loop) → let l = loop-before-part c .loop in let p = c .before .before .before .place .given .0 in
     rowsOf (l .number) (l .at) (l .inv .1) ≡ rowOf (l .number) (p .0 .0) (wordsOf (now (c .part .result))) ++ rowsOf (l .number + 1) (l .at + p .1 .0 .0) (found (c .before .before .before) .others)
-split c = rows-turn (c .before .before .before .before .before .before .loop .number) (found (c .before .before .before)) (words-are c)
+split c = rows-turn (loop-before-part c .loop .number) (found (c .before .before .before)) (words-are c)
 
 loop-holds : tie.Need-loop-holds Inv-loop μ-loop
 loop-holds c = let b = now (c .before .before .args .block) in
@@ -64,17 +74,17 @@ part-requires : tie.Need-part-requires Inv-loop μ-loop
 part-requires c κs = let t = found (c .before .before) in (omega arith, omega arith)
 
 write-row-requires : tie.Need-write-row-requires Inv-loop μ-loop
-write-row-requires c κs = let t = found (c .before .before .before .before) in let l = c .before .before .before .before .before .before .before .loop in
-    (omega (arith, t .here, t .within, few (c .before .before .before .before .before .before .before .before .before)), rw (words-are (c .before)) (t .ok), omega (arith, ap length (words-are (c .before)), t .size-is, t .within, few (c .before .before .before .before .before .before .before .before .before)), fits (l .inv .3) (rowOf (l .number) (c .before .before .before .before .place .given .0 .0 .0) (wordsOf (now (c .before .part .result)))) (rowsOf (l .number + 1) (l .at + c .before .before .before .before .place .given .0 .1 .0 .0) (t .others)) (split (c .before)) (c .before .before .before .before .before .before .before .before .before .before .pre .1))
+write-row-requires c κs = let t = found (c .before .before .before .before) in let l = loop-before-part (c .before) .loop in
+    (omega (arith, t .here, t .within, few (shared-slice-known-before-part (c .before))), rw (words-are (c .before)) (t .ok), omega (arith, ap length (words-are (c .before)), t .size-is, t .within, few (shared-slice-known-before-part (c .before))), fits (l .inv .3) (rowOf (l .number) (c .before .before .before .before .place .given .0 .0 .0) (wordsOf (now (c .before .part .result)))) (rowsOf (l .number + 1) (l .at + c .before .before .before .before .place .given .0 .1 .0 .0) (t .others)) (split (c .before)) (shared-slice-known-before-part (c .before) .before .pre .1))
 
 add-number : tie.Need-add-number Inv-loop μ-loop
-add-number c = let t = found (c .before .before .before .before .before .before .before) in omega (arith, c .before .before .before .before .before .before .before .before .before .before .loop .inv .0, t .within, few (c .before .before .before .before .before .before .before .before .before .before .before .before))
+add-number c = let t = found (place-before-out (c .before)) in omega (arith, loop-before-part (c .before .before .before .before) .loop .inv .0, t .within, few (shared-slice-known-before-part (c .before .before .before .before)))
 
 loop-less : tie.Need-loop-less Inv-loop μ-loop
-loop-less c = let t = found (c .before .before .before .before .before .before .before) in omega arith
+loop-less c = let t = found (place-before-out (c .before)) in omega arith
 
 loop-again : tie.Need-loop-again Inv-loop μ-loop
-loop-again c = let t = found (c .before .before .before .before .before .before .before) in (omega (arith, t .long, c .before .before .before .before .before .before .before .before .before .before .loop .inv .0), t .others, t .left, on (c .before .before .before .before .before .before .before .before .before .before .loop .inv .3) _ _ (split (c .before .before .before .before)) (c .before .before .write-row .ensures))
+loop-again c = let t = found (place-before-out (c .before)) in (omega (arith, t .long, loop-before-part (c .before .before .before .before) .loop .inv .0), t .others, t .left, on (loop-before-part (c .before .before .before .before) .loop .inv .3) _ _ (split (c .before .before .before .before)) (c .before .before .write-row .ensures))
 
 pub write-rows-spec : {M : Type 1} → statement M
 write-rows-spec =

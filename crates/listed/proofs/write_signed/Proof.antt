@@ -12,10 +12,14 @@ use borrow.Author.Needs.{needs}
 use Rattle.listed.proofs.write_signed.Statement.{statement}
 use Rattle.listed.proofs.write_signed.Tie as tie
 
+-- back from one place to another
+abbrev start-before-write-text : tie.After-write-text → tie.Start
+start-before-write-text c = c .before .before .before .before .before
+
 -- the minus is in, and the digits are left
-left : (c : tie.After-write-text) → let a = c .before .before .before .before .before .args in
+left : (c : tie.After-write-text) → let a = start-before-write-text c .args in
     Going (now (a .out)) (a .at .0) (signedOf (a .w)) (c .write-text .last .1 .0) (c .write-text .result .0) (decimalOf (65536 - a .w))
-left c = on start (45 ∷ []) _ (signed-below (c .before .before .before .before .before .args .w) (omega arith)) (c .write-text .ensures)
+left c = on start (45 ∷ []) _ (signed-below (start-before-write-text c .args .w) (omega arith)) (c .write-text .ensures)
 
 write-number-requires : tie.Need-write-number-requires
 write-number-requires c κs = omega (arith, c .before .before .before .pre, ap length (signed-plain (c .before .before .before .args .w) (omega arith)))
@@ -36,7 +40,7 @@ sub-write-number : tie.Need-sub-write-number
 sub-write-number c = search needs
 
 write-number-requires-2 : tie.Need-write-number-requires-2
-write-number-requires-2 c κs = omega (arith, left (c .before .before .before) .total, left (c .before .before .before) .kept, c .before .before .before .before .before .before .before .before .pre)
+write-number-requires-2 c κs = omega (arith, left (c .before .before .before) .total, left (c .before .before .before) .kept, start-before-write-text (c .before .before .before) .pre)
 
 same-length-2 : tie.Need-same-length-2
 same-length-2 c = search needs

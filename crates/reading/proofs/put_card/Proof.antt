@@ -12,6 +12,10 @@ use borrow.Author.Needs.{needs}
 use Rattle.reading.proofs.put_card.Statement.{statement}
 use Rattle.reading.proofs.put_card.Tie as tie
 
+-- back from one place to another
+abbrev start-before-bytes-of-words : tie.After-bytes-of-words → tie.Start
+start-before-bytes-of-words c = c .before .before .before .before
+
 add-first : tie.Need-add-first
 add-first c = search needs
 
@@ -19,7 +23,7 @@ bytes-of-words-requires : tie.Need-bytes-of-words-requires
 bytes-of-words-requires c κs = search needs
 
 slice-aggregate-keep-bytes : tie.Need-slice-aggregate-keep-bytes
-slice-aggregate-keep-bytes c = sym (length-take-le 80 (now (c .before .before .before .before .before .before .args .line)) (c .before .if1 .taken))
+slice-aggregate-keep-bytes c = sym (length-take-le 80 (now (start-before-bytes-of-words (c .before .before) .args .line)) (c .before .if1 .taken))
 
 keep-bytes-requires : tie.Need-keep-bytes-requires
 keep-bytes-requires c κs = search needs
@@ -28,7 +32,7 @@ same-length : tie.Need-same-length
 same-length c = search needs
 
 returns : tie.Need-returns
-returns c = let a = c .before .before .before .before .before .before .before .before .before .before .args in let l = now (a .line) in
+returns c = let a = start-before-bytes-of-words (c .before .before .before .before .before .before) .args in let l = now (a .line) in
     let below : Below 256 l = all-below 256 l (λ i. omega (arith, c .before .before .before .before .before .before .before .before .before .shared-slice-known .given i)) in
     c .before .before .keep-bytes .ensures ∙ rw (c .before .before .before .before .before .before .bytes-of-words .ensures, card-bytes l below, long-card l (c .before .before .before .before .before .if1 .taken))
 
@@ -48,7 +52,7 @@ same-length-2 : tie.Need-same-length-2
 same-length-2 c = search needs
 
 returns-2 : tie.Need-returns-2
-returns-2 c = let a = c .before .before .before .before .before .before .before .before .before .before .before .before .before .args in let l = now (a .line) in
+returns-2 c = let a = start-before-bytes-of-words (c .before .before .before .before .before .before .before .before .before) .args in let l = now (a .line) in
     let below : Below 256 l = all-below 256 l (λ i. omega (arith, c .before .before .before .before .before .before .before .before .before .before .before .before .shared-slice-known .given i)) in
     c .before .before .keep-filling .ensures ∙ rw (c .before .before .before .before .before .before .keep-bytes2 .ensures, c .before .before .before .before .before .before .before .before .before .bytes-of-words .ensures, card-bytes l below, short-card l (c .before .before .before .before .before .before .before .before .if1 .left)) (sym (sets-append (now (a .block)) ((a .so .0 + 1) * 2) l (replicate (80 - length l) 32)))
 

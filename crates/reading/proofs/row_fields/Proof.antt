@@ -14,6 +14,10 @@ use borrow.Author.Needs.{needs}
 use Rattle.reading.proofs.row_fields.Statement.{statement}
 use Rattle.reading.proofs.row_fields.Tie as tie
 
+-- back from one place to another
+abbrev read-numbers-before-blank-after : tie.After-blank-after → tie.After-read-numbers
+read-numbers-before-blank-after c = c .before .before .before .before .before .before
+
 read-numbers-requires : tie.Need-read-numbers-requires
 read-numbers-requires c κs = search needs
 
@@ -42,10 +46,10 @@ same-length-2 c = search needs
 
 returns-2 : tie.Need-returns-2
 unfolding rowFields
-returns-2 c = let a = c .before .before .before .before .before .before .before .before .before .before .args in let num = a .num .0 in let l = now (a .line) in let n = a .count .0 in let row = c .before .before .before .before .before .before .read-numbers .last .1 .1 .1 .1 .0 in
+returns-2 c = let a = read-numbers-before-blank-after c .before .before .before .before .args in let num = a .num .0 in let l = now (a .line) in let n = a .count .0 in let row = read-numbers-before-blank-after c .read-numbers .last .1 .1 .1 .1 .0 in
     let e : c .before .columns-of-fields .result .0 ≡ 6 * n = omega (arith, c .before .columns-of-fields .ensures) in
     checked-on (take n row) (c .blank-after .result) (blankAfter num l (6 * n)) (c .blank-after .ensures ∙ ap (blankAfter num l) e)
-    ∙ good-read [] (λ r. onward (blankAfter num l (6 * n)) (λ _. passed r)) (numbers num l 0 n) (take n row) (c .before .before .enum-told .given .1) (ap (λ k. checkedOf (take k row) (c .before .before .before .before .before .before .read-numbers .result)) (sym (zero-add n)) ∙ c .before .before .before .before .before .before .read-numbers .ensures)
+    ∙ good-read [] (λ r. onward (blankAfter num l (6 * n)) (λ _. passed r)) (numbers num l 0 n) (take n row) (c .before .before .enum-told .given .1) (ap (λ k. checkedOf (take k row) (read-numbers-before-blank-after c .read-numbers .result)) (sym (zero-add n)) ∙ read-numbers-before-blank-after c .read-numbers .ensures)
 
 pub row-fields-spec : {M : Type 1} → statement M
 row-fields-spec =

@@ -16,16 +16,20 @@ Inv-loop numbers out₀ end i₀ to₀ out i to = (i ≤ length numbers) × Goin
 abbrev μ-loop : tie.MeasureT-loop
 μ-loop numbers out₀ end i₀ to₀ out i to = length numbers - i
 
+-- back from one place to another
+abbrev start-before-turn : tie.In-loop Inv-loop μ-loop → tie.Start Inv-loop μ-loop
+start-before-turn c = c .before .before .before .before
+
 -- the next number, and the others
-turn : (c : tie.In-loop Inv-loop μ-loop) → let l = c .before .loop in let ns = now (c .before .before .before .before .args .numbers) in
+turn : (c : tie.In-loop Inv-loop μ-loop) → let l = c .before .loop in let ns = now (start-before-turn c .args .numbers) in
     spaced (drop (l .i) ns) ≡ (32 ∷ []) ++ (decimalOf (getD ns (l .i) 0) ++ spaced (drop (l .i + 1) ns))
-turn c = spaced-turn (now (c .before .before .before .before .args .numbers)) (c .before .loop .i) (omega arith)
+turn c = spaced-turn (now (start-before-turn c .args .numbers)) (c .before .loop .i) (omega arith)
 
 room : (c : tie.In-loop Inv-loop μ-loop) → c .before .loop .to + 1 ≤ length (c .before .loop .out)
-room c = fits (c .before .loop .inv .1) (32 ∷ []) _ (turn c) (c .before .before .before .before .pre)
+room c = fits (c .before .loop .inv .1) (32 ∷ []) _ (turn c) (start-before-turn c .pre)
 
 -- the space is in, and the number is left
-going : (c : tie.In-loop Inv-loop μ-loop) → let l = c .before .loop in let a = c .before .before .before .before .args in
+going : (c : tie.In-loop Inv-loop μ-loop) → let l = c .before .loop in let a = start-before-turn c .args in
     Going (now (a .out)) (a .at .0) (spaced (now (a .numbers))) (set (l .out) (l .to) 32) (l .to + 1) (decimalOf (getD (now (a .numbers)) (l .i) 0) ++ spaced (drop (l .i + 1) (now (a .numbers))))
 going c = on (c .before .loop .inv .1) (32 ∷ []) _ (turn c) (stored _ _ 32)
 
@@ -45,8 +49,8 @@ shared-slice-read-write-number : tie.Need-shared-slice-read-write-number Inv-loo
 shared-slice-read-write-number c = omega arith
 
 write-number-requires : tie.Need-write-number-requires Inv-loop μ-loop
-write-number-requires c κs = let ns = now (c .before .before .before .before .before .before .args .numbers) in
-    fits (going (c .before .before)) (decimalOf (getD ns (c .before .before .before .loop .i) 0)) (spaced (drop (c .before .before .before .loop .i + 1) ns)) refl (c .before .before .before .before .before .before .pre)
+write-number-requires c κs = let ns = now (start-before-turn (c .before .before) .args .numbers) in
+    fits (going (c .before .before)) (decimalOf (getD ns (c .before .before .before .loop .i) 0)) (spaced (drop (c .before .before .before .loop .i + 1) ns)) refl (start-before-turn (c .before .before) .pre)
 
 add-i : tie.Need-add-i Inv-loop μ-loop
 add-i c = omega arith

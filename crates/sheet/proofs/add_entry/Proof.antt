@@ -9,6 +9,10 @@ use borrow.Author.Needs.{needs}
 use Rattle.sheet.proofs.add_entry.Statement.{statement}
 use Rattle.sheet.proofs.add_entry.Tie as tie
 
+-- back from one place to another
+abbrev start-before-sheet2 : tie.After-sheet2 → tie.Start
+start-before-sheet2 c = c .before .before .before .before .before .before .before .before
+
 put-numbers-requires : tie.Need-put-numbers-requires
 put-numbers-requires c κs = let s = now (c .before .before .args .sheet) in (c .before .before .pre .2, length-sheet version1 s (entriesOf version1 s) (c .before .before .pre .0))
 
@@ -22,7 +26,7 @@ same-length : tie.Need-same-length
 same-length c = search needs
 
 returns : tie.Need-returns
-returns c = added version1 (now (c .before .before .before .before .before .before .before .before .before .args .sheet)) (c .before .before .before .before .before .before .before .before .before .args .count) (entryOf (c .before .before .before .before .before .before .before .before .before .args .e)) (c .before .before .before .before .before .before .before .before .before .pre .0) (c .before .before .before .before .before .before .before .before .before .pre .1) (c .before .before .before .before .before .before .before .before .before .pre .2) refl (c .before .before .before .before .before .before .put-numbers .ensures) (c .before .before .put-count .ensures)
+returns c = added version1 (now (start-before-sheet2 (c .before) .args .sheet)) (start-before-sheet2 (c .before) .args .count) (entryOf (start-before-sheet2 (c .before) .args .e)) (start-before-sheet2 (c .before) .pre .0) (start-before-sheet2 (c .before) .pre .1) (start-before-sheet2 (c .before) .pre .2) refl (c .before .before .before .before .before .before .put-numbers .ensures) (c .before .before .put-count .ensures)
 
 pub add-entry-spec : {M : Type 1} → statement M
 add-entry-spec =

@@ -14,6 +14,10 @@ use borrow.Author.Needs.{needs}
 use Rattle.sheet.proofs.more_stands.Statement.{statement}
 use Rattle.sheet.proofs.more_stands.Tie as tie
 
+-- back from one place to another
+abbrev start-before-count : tie.After-count → tie.Start
+start-before-count c = c .before .before .before .before .before .before
+
 before-entry-requires : tie.Need-before-entry-requires
 before-entry-requires c κs = search needs
 
@@ -31,8 +35,8 @@ count-requires c κs = search needs
 
 returns : tie.Need-returns
 unfolding zeros
-returns c = let s = now (c .before .before .before .before .before .before .args .sheet) in
-    let w = words-past s _ (c .before .before .before .before .before-entry .result .0) (c .before .before .before .before-entry2 .result .0) (c .before .before .before .before .before .before .args .count * 4) (c .before .before .before .before .before-entry .ensures) (c .before .before .before .before-entry2 .ensures) (c .before .before .before .before .before .before .pre .1) (c .before .before .part .ensures) in
+returns c = let s = now (start-before-count c .args .sheet) in
+    let w = words-past s _ (c .before .before .before .before .before-entry .result .0) (c .before .before .before .before-entry2 .result .0) (start-before-count c .args .count * 4) (c .before .before .before .before .before-entry .ensures) (c .before .before .before .before-entry2 .ensures) (start-before-count c .pre .1) (c .before .before .part .ensures) in
     ap₂ (λ (k n : ℕ). not (eqb k n)) (c .before .first-outside .ensures ∙ scan-same (wordWithin 0 0) isZero zero-within _ ∙ ap (passing isZero) w) (c .count .ensures ∙ ap length w)
 
 pub more-stands-spec : {M : Type 1} → statement M

@@ -19,16 +19,32 @@ Inv-loop text block₀ row₀ plan₀ so₀ num₀ at₀ block row plan so num a
 abbrev μ-loop : tie.MeasureT-loop
 μ-loop text block₀ row₀ plan₀ so₀ num₀ at₀ block row plan so num at = length text - at
 
+-- back from one place to another
+abbrev start-before-next-line : tie.After-next-line Inv-loop μ-loop → tie.Start Inv-loop μ-loop
+start-before-next-line c = c .before .before .before .before .before .before
+
+abbrev next-line-before-p : tie.After-p Inv-loop μ-loop → tie.After-next-line Inv-loop μ-loop
+next-line-before-p c = c .before .before .before .before .before .before .before .before .before
+
+abbrev next-line-before-f : tie.After-f Inv-loop μ-loop → tie.After-next-line Inv-loop μ-loop
+next-line-before-f c = c .before .before .before .before .before .before .before .before .before
+
+abbrev read-line-before-p : tie.After-p Inv-loop μ-loop → tie.After-read-line Inv-loop μ-loop
+read-line-before-p c = c .before .before .before .before .before
+
+abbrev read-line-before-f : tie.After-f Inv-loop μ-loop → tie.After-read-line Inv-loop μ-loop
+read-line-before-f c = c .before .before .before .before .before
+
 -- the line at hand, the block after it, and the lines as they were cut
 abbrev line : tie.After-next-line Inv-loop μ-loop → List ℕ
-line c = let at = c .before .before .loop .at in take (c .next-line .result .end .0 - at) (drop at (now (c .before .before .before .before .before .before .args .text)))
+line c = let at = c .before .before .loop .at in take (c .next-line .result .end .0 - at) (drop at (now (start-before-next-line c .args .text)))
 
 abbrev others : tie.After-next-line Inv-loop μ-loop → List (List ℕ)
-others c = linesIn (drop (c .next-line .result .next .0) (now (c .before .before .before .before .before .before .args .text)))
+others c = linesIn (drop (c .next-line .result .next .0) (now (start-before-next-line c .args .text)))
 
 -- what was to be read before the line is the whole
 before : (c : tie.After-next-line Inv-loop μ-loop) → let l = c .before .before .loop in
-    kept (l .so .0) (l .block) (readLines (l .num) (l .so .0) (toCome (l .plan)) (line c ∷ others c)) ≡ kept 0 (now (c .before .before .before .before .before .before .args .block)) (readLines 1 0 [] (linesIn (now (c .before .before .before .before .before .before .args .text))))
+    kept (l .so .0) (l .block) (readLines (l .num) (l .so .0) (toCome (l .plan)) (line c ∷ others c)) ≡ kept 0 (now (start-before-next-line c .args .block)) (readLines 1 0 [] (linesIn (now (start-before-next-line c .args .text))))
 before c = let l = c .before .before .loop in ap (λ x. kept (l .so .0) (l .block) (readLines (l .num) (l .so .0) (toCome (l .plan)) x)) (sym (c .next-line .ensures .line .cut)) ∙ l .inv .same
 
 cards-only-requires : tie.Need-cards-only-requires Inv-loop μ-loop
@@ -59,31 +75,31 @@ enum-known-f : tie.Need-enum-known-f Inv-loop μ-loop
 enum-known-f c = search needs
 
 same-length : tie.Need-same-length Inv-loop μ-loop
-same-length c = let l = c .before .before .before .before .before .before .before .before .before .before .before .before .loop in let kept-length : length (c .before .before .before .before .before .before .read-line .last .1 .1 .1 .1 .1 .1 .0) ≡ length (l .block) = c .before .before .before .before .before .before .read-line .kept .1 .1 .1 .1 .1 .1 .0 in kept-length ∙ l .inv .length-kept
+same-length c = let l = next-line-before-f (c .before) .before .before .loop in let kept-length : length (read-line-before-f (c .before) .read-line .last .1 .1 .1 .1 .1 .1 .0) ≡ length (l .block) = read-line-before-f (c .before) .read-line .kept .1 .1 .1 .1 .1 .1 .0 in kept-length ∙ l .inv .length-kept
 
 returns : tie.Need-returns Inv-loop μ-loop
-returns c = let l = c .before .before .before .before .before .before .before .before .before .before .before .before .loop in let b = c .before .before .before .before .before .before .read-line .last .1 .1 .1 .1 .1 .1 .0 in
-    sym (end (l .num) (l .so .0) (toCome (l .plan)) (line (c .before .before .before .before .before .before .before .before .before .before)) (others (c .before .before .before .before .before .before .before .before .before .before)) (l .block) b (c .before .f .given .0 .0) (ap (stepOf b) (sym (c .before .f .given .1)) ∙ c .before .before .before .before .before .before .read-line .ensures .is)) ∙ before (c .before .before .before .before .before .before .before .before .before .before)
+returns c = let l = next-line-before-f (c .before) .before .before .loop in let b = read-line-before-f (c .before) .read-line .last .1 .1 .1 .1 .1 .1 .0 in
+    sym (end (l .num) (l .so .0) (toCome (l .plan)) (line (next-line-before-f (c .before))) (others (next-line-before-f (c .before))) (l .block) b (c .before .f .given .0 .0) (ap (stepOf b) (sym (c .before .f .given .1)) ∙ read-line-before-f (c .before) .read-line .ensures .is)) ∙ before (next-line-before-f (c .before))
 
 enum-known-p : tie.Need-enum-known-p Inv-loop μ-loop
 enum-known-p c = search needs
 
 add-num : tie.Need-add-num Inv-loop μ-loop
-add-num c = let g = c .before .before .before .before .before .before .before .before .before .before .before .before .loop .inv in omega (arith, g .lines-most, c .before .before .before .before .before .before .before .before .before .before .before .loop-test .taken, c .before .before .before .before .before .before .before .before .before .before .before .before .before .before .before .before .pre)
+add-num c = let g = next-line-before-p (c .before) .before .before .loop .inv in omega (arith, g .lines-most, next-line-before-p (c .before) .before .loop-test .taken, start-before-next-line (next-line-before-p (c .before)) .pre)
 
 loop-less : tie.Need-loop-less Inv-loop μ-loop
-loop-less c = omega (arith, c .before .before .before .before .before .before .before .before .before .before .next-line .ensures .line .onward, c .before .before .before .before .before .before .before .before .before .before .next-line .ensures .line .inside)
+loop-less c = omega (arith, next-line-before-p (c .before) .next-line .ensures .line .onward, next-line-before-p (c .before) .next-line .ensures .line .inside)
 
 loop-again : tie.Need-loop-again Inv-loop μ-loop
-loop-again c = let l = c .before .before .before .before .before .before .before .before .before .before .before .before .loop in let g = l .inv in let b = c .before .before .before .before .before .before .read-line .last .1 .1 .1 .1 .1 .1 .0 in let p = c .before .p .given .0 .0 in let n = c .before .p .given .0 .1 .0 in
-    let kept-block : length b ≡ length (l .block) = c .before .before .before .before .before .before .read-line .kept .1 .1 .1 .1 .1 .1 .0 in
-    let kept-row : length (c .before .before .before .before .before .before .read-line .last .1 .1 .1 .1 .1 .0) ≡ length (l .row) = c .before .before .before .before .before .before .read-line .kept .1 .1 .1 .1 .1 .0 in
+loop-again c = let l = next-line-before-p (c .before) .before .before .loop in let g = l .inv in let b = read-line-before-p (c .before) .read-line .last .1 .1 .1 .1 .1 .1 .0 in let p = c .before .p .given .0 .0 in let n = c .before .p .given .0 .1 .0 in
+    let kept-block : length b ≡ length (l .block) = read-line-before-p (c .before) .read-line .kept .1 .1 .1 .1 .1 .1 .0 in
+    let kept-row : length (read-line-before-p (c .before) .read-line .last .1 .1 .1 .1 .1 .0) ≡ length (l .row) = read-line-before-p (c .before) .read-line .kept .1 .1 .1 .1 .1 .0 in
     record {
-      same = sym (turn (l .num) (l .so .0) (toCome (l .plan)) (line (c .before .before .before .before .before .before .before .before .before .before)) (others (c .before .before .before .before .before .before .before .before .before .before)) (l .block) b p n (ap (stepOf b) (sym (c .before .p .given .1)) ∙ c .before .before .before .before .before .before .read-line .ensures .is)) ∙ before (c .before .before .before .before .before .before .before .before .before .before);
+      same = sym (turn (l .num) (l .so .0) (toCome (l .plan)) (line (next-line-before-p (c .before))) (others (next-line-before-p (c .before))) (l .block) b p n (ap (stepOf b) (sym (c .before .p .given .1)) ∙ read-line-before-p (c .before) .read-line .ensures .is)) ∙ before (next-line-before-p (c .before));
       length-kept = kept-block ∙ g .length-kept;
       row-long = kept-row ∙ g .row-long;
-      lines-most = omega (arith, g .lines-most, c .before .before .before .before .before .before .before .before .before .before .next-line .ensures .line .onward);
-      words-most = omega (arith, g .words-most, near-next (l .so .0) p n (c .before .before .before .before .before .before .read-line .result) (c .before .p .given .1) (c .before .before .before .before .before .before .read-line .ensures .near));
+      lines-most = omega (arith, g .lines-most, next-line-before-p (c .before) .next-line .ensures .line .onward);
+      words-most = omega (arith, g .words-most, near-next (l .so .0) p n (read-line-before-p (c .before) .read-line .result) (c .before .p .given .1) (read-line-before-p (c .before) .read-line .ensures .near));
     }
 
 at-end-requires : tie.Need-at-end-requires Inv-loop μ-loop

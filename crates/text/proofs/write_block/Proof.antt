@@ -13,6 +13,13 @@ use borrow.Author.Needs.{needs}
 use Rattle.text.proofs.write_block.Statement.{statement}
 use Rattle.text.proofs.write_block.Tie as tie
 
+-- back from one place to another
+abbrev start-before-bytes-of-words : tie.After-bytes-of-words → tie.Start
+start-before-bytes-of-words c = c .before .before .before .before
+
+abbrev bytes-of-words-before-block : tie.After-block → tie.After-bytes-of-words
+bytes-of-words-before-block c = c .before .before .before .before
+
 -- the text was accepted, with at most 7,998 record words
 given : (c : tie.Start) → Accepts (now (c .args .text)) (c .args .records .0)
 given c = accepts (now (c .args .text)) (c .args .records) (c .pre)
@@ -27,16 +34,16 @@ bytes-of-words-requires : tie.Need-bytes-of-words-requires
 bytes-of-words-requires c κs = omega (arith, most (c .before .before .before))
 
 returns : tie.Need-returns
-returns c = let a = given (c .before .before .before .before .before) in let b = now (c .before .before .before .before .before .args .block) in
+returns c = let a = given (start-before-bytes-of-words (c .before)) in let b = now (start-before-bytes-of-words (c .before) .args .block) in
     too-short b (bytesOf (framed (a .records))) (c .before .bytes-of-words .result .0) (omega (arith, c .before .bytes-of-words .ensures, length-framed (a .records), a .count)) (c .if1 .taken)
-    ∙ sym (block-is (now (c .before .before .before .before .before .args .text)) b (c .before .before .before .before .before .args .records .0) a)
+    ∙ sym (block-is (now (start-before-bytes-of-words (c .before) .args .text)) b (start-before-bytes-of-words (c .before) .args .records .0) a)
 
 read-lines-requires : tie.Need-read-lines-requires
-read-lines-requires c κs = not-long (now (c .before .before .before .before .before .before .args .text)) (c .before .before .before .before .before .before .args .records .0) (given (c .before .before .before .before .before .before))
+read-lines-requires c κs = not-long (now (start-before-bytes-of-words (c .before .before) .args .text)) (start-before-bytes-of-words (c .before .before) .args .records .0) (given (start-before-bytes-of-words (c .before .before)))
 
 seal-requires : tie.Need-seal-requires
-seal-requires c κs = let b = c .before .before .before .read-lines .last .1 .0 in let kept-length : length b ≡ length (now (c .before .before .before .before .before .before .before .before .before .before .args .block)) = c .before .before .before .read-lines .kept .1 .0 in
-    (most (c .before .before .before .before .before .before .before .before .before .before), omega (arith, kept-length, c .before .before .before .before .before .if1 .left, c .before .before .before .before .before .before .bytes-of-words .ensures))
+seal-requires c κs = let b = c .before .before .before .read-lines .last .1 .0 in let kept-length : length b ≡ length (now (start-before-bytes-of-words (bytes-of-words-before-block (c .before .before)) .args .block)) = c .before .before .before .read-lines .kept .1 .0 in
+    (most (start-before-bytes-of-words (bytes-of-words-before-block (c .before .before))), omega (arith, kept-length, c .before .before .before .before .before .if1 .left, bytes-of-words-before-block (c .before .before) .bytes-of-words .ensures))
 
 same-length : tie.Need-same-length
 same-length c = search needs

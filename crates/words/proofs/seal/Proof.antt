@@ -6,6 +6,13 @@ use borrow.Author.Needs.{needs}
 use Rattle.words.proofs.seal.Statement.{statement}
 use Rattle.words.proofs.seal.Tie as tie
 
+-- back from one place to another
+abbrev put-word-before-exclusive-or : tie.After-exclusive-or → tie.After-put-word
+put-word-before-exclusive-or c = c .before .before .before .before .before
+
+abbrev start-before-block2 : tie.After-block2 → tie.Start
+start-before-block2 c = put-word-before-exclusive-or (c .before .before .before) .before .before .before
+
 add-last : tie.Need-add-last
 add-last c = search needs
 
@@ -25,14 +32,14 @@ exclusive-or-requires : tie.Need-exclusive-or-requires
 exclusive-or-requires c κs = search needs
 
 put-word-requires-2 : tie.Need-put-word-requires-2
-put-word-requires-2 c κs = omega (arith, length-wordsOf (c .before .before .before .before .before .before .put-word .last .0), c .before .before .before .before .before .before .put-word .kept .0, c .before .before .before .before .before .before .before .before .before .pre .1)
+put-word-requires-2 c κs = omega (arith, length-wordsOf (put-word-before-exclusive-or (c .before) .put-word .last .0), put-word-before-exclusive-or (c .before) .put-word .kept .0, put-word-before-exclusive-or (c .before) .before .before .before .pre .1)
 
 same-length : tie.Need-same-length
 same-length c = search needs
 
 returns : tie.Need-returns
-returns c = let b = now (c .before .before .before .before .before .before .before .before .before .before .before .before .args .block) in
-    sealed b (c .before .before .before .before .before .before .before .before .before .before .before .before .args .records .0) (c .before .before .before .before .before .before .before .before .before .before .before .before .pre .1) (all-below 256 b (λ i. omega (arith, c .before .before .before .before .before .before .before .before .before .before .before .slice-known .given i))) (c .before .before .before .before .before .before .before .before .before .put-word .ensures) (c .before .before .before .before .before .part .ensures) (c .before .before .before .before .exclusive-or .ensures) (c .before .before .put-word2 .ensures)
+returns c = let b = now (start-before-block2 (c .before) .args .block) in
+    sealed b (start-before-block2 (c .before) .args .records .0) (start-before-block2 (c .before) .pre .1) (all-below 256 b (λ i. omega (arith, put-word-before-exclusive-or (c .before .before .before .before) .before .before .slice-known .given i))) (put-word-before-exclusive-or (c .before .before .before .before) .put-word .ensures) (c .before .before .before .before .before .part .ensures) (c .before .before .before .before .exclusive-or .ensures) (c .before .before .put-word2 .ensures)
 
 pub seal-spec : {M : Type 1} → statement M
 seal-spec =

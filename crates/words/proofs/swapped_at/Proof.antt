@@ -6,6 +6,10 @@ use borrow.Author.Needs.{needs}
 use Rattle.words.proofs.swapped_at.Statement.{statement}
 use Rattle.words.proofs.swapped_at.Tie as tie
 
+-- back from one place to another
+abbrev start-before-wide : tie.After-wide → tie.Start
+start-before-wide c = c .before .before .before .before
+
 bytes-of-words-requires : tie.Need-bytes-of-words-requires
 bytes-of-words-requires c κs = omega (arith, word-room (now (c .before .args .part)) (c .before .args .at .0) (c .before .pre))
 
@@ -19,7 +23,7 @@ add-wide : tie.Need-add-wide
 add-wide c = search needs
 
 shared-slice-read-wide-2 : tie.Need-shared-slice-read-wide-2
-shared-slice-read-wide-2 c = omega (arith, word-room (now (c .before .before .before .before .before .args .part)) (c .before .before .before .before .before .args .at .0) (c .before .before .before .before .before .pre))
+shared-slice-read-wide-2 c = omega (arith, word-room (now (start-before-wide (c .before) .args .part)) (start-before-wide (c .before) .args .at .0) (start-before-wide (c .before) .pre))
 
 wide-requires-2 : tie.Need-wide-requires-2
 wide-requires-2 c κs = search needs
@@ -32,7 +36,7 @@ add-result c = search needs
 
 returns : tie.Need-returns
 unfolding swapped
-returns c = let s = c .before .before .before .before .before .before in
+returns c = let s = start-before-wide (c .before .before) in
     omega (arith, word-bytes (now (s .args .part)) (s .args .at .0) (c .before .before .before .before .bytes-of-words .result .0) (c .before .before .before .before .bytes-of-words .ensures) (s .pre))
 
 pub swapped-at-spec : {M : Type 1} → statement M
