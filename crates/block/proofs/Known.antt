@@ -22,9 +22,13 @@ use Rattle.record.specs.Judging.{wrongTotal, underLeast, firstNotZero, firstNot
 use Rattle.block.specs.Judging.{wrongSize, inner, computed, walk, judged}
 use Rattle.block.proofs.Size.{size-right}
 
+-- the rows of a block: 1 to 9
+abbrev pub Row : ℕ → Type 0
+Row n = (1 ≤ n) × (n ≤ 9)
+
 -- a refusal of the judge: its number is one of the paper's, and the others have room
 pub record Told (r : Answer) : Type 0 where
-  pub listed : r .n ≤ 9
+  pub listed : Row (r .n)
   pub packs : Packs r
 
 abbrev pub Known : Verdict ℕ → Type 0
@@ -32,7 +36,7 @@ Known (passed a) = a < 2 ^ 16
 Known (refused r) = Told r
 
 -- refusal n at record k, with b and c
-pub told : (n k b c : ℕ) → n ≤ 9 → k < 2 ^ 16 → b < 2 ^ 16 → c < 2 ^ 16 → Told (answer n k b c)
+told : (n k b c : ℕ) → Row n → k < 2 ^ 16 → b < 2 ^ 16 → c < 2 ^ 16 → Told (answer n k b c)
 told n k b c hn hk hb hc =
     record { listed = hn; packs = record { n-fits = omega arith; a-fits = omega arith; b-fits = hb; c-fits = hc } }
 
@@ -100,6 +104,6 @@ judged-known b bytes =
     (omega (arith, ones-le 16 (bitXor stored (computed ws)) (xor-lt 16 stored (computed ws) (getD-below 65536 ws (length ws - 1) (omega arith) below) (fold-below (take (length ws - 1) ws) front)))))
     (λ _. walk-known 0 1 (inner ws) (omega (arith, length-slice 1 (length ws - 1) ws (omega arith))) (all-drop (λ w. w < 65536) 1 (take (length ws - 1) ws) front))))
 
-pub answer-known : (v : Verdict ℕ) → Known v → Told (answered v)
-answer-known (passed a) h = told 0 a 0 0 (omega arith) h (omega arith) (omega arith)
-answer-known (refused r) h = h
+pub answer-packs : (v : Verdict ℕ) → Known v → Packs (answered v)
+answer-packs (passed a) h = record { n-fits = omega arith; a-fits = omega arith; b-fits = omega arith; c-fits = omega arith }
+answer-packs (refused r) h = h .packs

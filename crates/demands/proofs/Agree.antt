@@ -44,7 +44,7 @@ use Rattle.amending.specs.declared.Refusal.the-variants as rows
 use Rattle.amending.specs.Cases.{amendedOf}
 use Rattle.amending.specs.Amending.{Outcome}
 use Rattle.demands.specs.Agree.{JudgeAgrees, CedarJudgeAgrees, StepAgrees, FindAgrees, PrefixAgrees, CedarPrefixAgrees, WrittenAgree, CedarWrittenAgree, LinesAgree, CedarLinesAgree, ContentAgrees, BlockAgrees, CedarBlockAgrees}
-use Rattle.demands.specs.Agree.{OpenAgrees, StartAgrees, BothAgree, AmendAgrees, UndoAgrees, CedarStartAgrees, CedarBothAgree, CedarAmendAgrees, CedarUndoAgrees}
+use Rattle.demands.specs.Agree.{PutAgrees, OpenAgrees, StartAgrees, BothAgree, AmendAgrees, UndoAgrees, CedarStartAgrees, CedarBothAgree, CedarAmendAgrees, CedarUndoAgrees}
 
 -- the case that a refusal's numbers tell
 refusalCase : Answer → Refusal
@@ -201,6 +201,9 @@ block-agrees text block = written-agree blockedOf blockedCase blocked-back (toBl
 
 pub cedar-block-agrees : CedarBlockAgrees
 cedar-block-agrees text block = cedar-written-agree (toBlock text block)
+
+pub put-agrees : PutAgrees
+put-agrees before text after also at n m p q = (same (p .bytes) (q .bytes), same (p .ends) (q .ends))
 
 -- the case that the numbers of a sheet tell
 openedCase : Answer → Opened

@@ -1,36 +1,51 @@
 -- Demand 1 holds.
-use mathlib.Core.Path.{_≡_, refl, ap}
+use mathlib.Core.Path.{_≡_, refl, ap, sym}
 use mathlib.Core.Logic.{_⊎_, inl, inr}
-use mathlib.Core.Bool.{Bool, true, false, cond, _&&_}
+use mathlib.Core.Bool.{Bool, true, false, cond, _&&_, not}
 use mathlib.Core.List.{List, [], _∷_}
-use Prim.Native.Nat.{ℕ}
+use Prim.Native.Nat.{ℕ, _-_, _^_, _≤_, _<_}
 use native.Mathlib.Omega.{arith}
-use borrow.Author.Tests.{ltb-true}
-use lib.Dec.{ltb, eqb}
-use lib.ListN.{length}
-use Rattle.units.specs.Answers.{answer, answered, Verdict, passed, refused, onward}
+use borrow.Author.Tests.{ltb-true, leb-false}
+use lib.Dec.{ltb, eqb, leb}
+use lib.ListN.{length, length-append, length-take}
+use Rattle.units.specs.Answers.{answer, Verdict, passed, refused, onward, Packs}
 use Rattle.units.proofs.Packing.{taken-apart}
-use Rattle.units.proofs.Verdicts.{and-on}
-use Rattle.words.specs.Words.{bytesOf, framed}
+use Rattle.units.proofs.Verdicts.{and-on, never-passed}
+use Rattle.words.specs.Words.{bytesOf, framed, All, Below}
 use Rattle.words.specs.Outcomes.{Written, written, leaves}
 use Rattle.words.proofs.Writing.{written-either}
 use Rattle.block.specs.Judging.{judged}
 use Rattle.block.specs.Records.{recordsOf}
 use Rattle.lines.specs.Text.{textOf, toLines}
 use Rattle.lines.proofs.Outcome.{outcome-told}
-use Rattle.block.proofs.Known.{Told, told, judged-known, answer-known}
+use Rattle.block.proofs.Known.{Known, judged-known, answer-packs}
 use Rattle.prefix.specs.declared.Letters.{Letters}
 use Rattle.prefix.specs.LookUp.{beside}
 use Rattle.prefix.specs.Table.{table, dashes, prefixOf}
 use Rattle.cedar.specs.Calls.{prefixAnswer}
-use Rattle.text.specs.Block.{readText, toBlock}
-use Rattle.text.proofs.Known.{answer-told}
-use Rattle.demands.specs.Demand1.{JudgeAnswers, PrefixAnswers, LinesAnswers, BlockAnswers}
+use Rattle.text.specs.Block.{readText, wordsIn, toBlock}
+use Rattle.text.proofs.Known.{Room, text-known, answer-told}
+use Rattle.demands.specs.Demand1.{Judges, BlockRow, JudgeAnswers, PrefixAnswers, LinesAnswers, TextRow, ContentAnswers, BlockAnswers, Writes, SheetRow, OpenAnswers, StartAnswers, BothAnswer, AmendRow, AmendAnswers, UndoRow, UndoAnswers}
+use Rattle.units.specs.declared.Answer.{Answer}
+use Rattle.units.proofs.Choosing.{by-test, both-ways}
+use Rattle.words.proofs.Laws.{getD-below}
+use Rattle.words.proofs.Lists.{all-getD, all-map}
+use Rattle.record.specs.Rules.{RecordOk}
+use Rattle.block.proofs.Exact.{only-good}
+use Rattle.sheet.specs.Sheets.{Entry, version1, sheetBytes, sheetOf, entriesOf, broken, countIn, opened, started}
+use Rattle.sheet.proofs.Sheets.{sheet-opened}
+use Rattle.amending.specs.Places.{recordNumber, wordNumber, oldValue, recordIn, noRecord, noValue, found, stands}
+use Rattle.amending.specs.Amending.{Both, both, amendable, undoable, lastOf, leaving, onBoth}
+use Rattle.text.proofs.Told as told
+
+-- ---- the calls on a block, on a text, and the prefix call
 
 pub judge-answers : JudgeAnswers
-judge-answers block bytes =
-    let t = answer-known (judged block) (judged-known block bytes) in
-    (t .listed, taken-apart (answered (judged block)) (t .packs))
+judge-answers block bytes = by (judged block) (judged-known block bytes)
+  where
+    by : (v : Verdict ℕ) → Known v → Judges BlockRow v
+    by (passed k) h = taken-apart (answer 0 k 0 0) (answer-packs (passed k) h)
+    by (refused r) h = (h .listed, taken-apart r (h .packs))
 
 -- three letters are bytes, of each row and so of each code
 bytes : Letters → Bool
@@ -51,12 +66,17 @@ beside-bytes (row ∷ rows) code other e o =
     by true p q = p
     by false p q = q
 
-letters-told : (l : Letters) → bytes l ≡ true → Told (answer 0 (l .0) (l .1) (l .2))
+letters-pack : (l : Letters) → bytes l ≡ true → Packs (answer 0 (l .0) (l .1) (l .2))
 unfolding bytes
-letters-told l e =
+letters-pack l e =
     let a = and-on (ltb (l .0) 256) _ e in
     let b = and-on (ltb (l .1) 256) _ (a .1) in
-    told 0 (l .0) (l .1) (l .2) (omega arith) (omega (arith, ltb-true (l .0) 256 (a .0))) (omega (arith, ltb-true (l .1) 256 (b .0))) (omega (arith, ltb-true (l .2) 256 (b .1)))
+    record {
+      n-fits = omega arith;
+      a-fits = omega (arith, ltb-true (l .0) 256 (a .0));
+      b-fits = omega (arith, ltb-true (l .1) 256 (b .0));
+      c-fits = omega (arith, ltb-true (l .2) 256 (b .1));
+    }
 
 table-bytes : each table ≡ true
 unfolding each bytes table
@@ -68,7 +88,7 @@ dashes-bytes = refl
 
 pub prefix-answers : PrefixAnswers
 prefix-answers instrument =
-    (refl, taken-apart (prefixAnswer instrument) (letters-told (prefixOf instrument) (beside-bytes table instrument dashes table-bytes dashes-bytes) .packs))
+    (refl, taken-apart (prefixAnswer instrument) (letters-pack (prefixOf instrument) (beside-bytes table instrument dashes table-bytes dashes-bytes)))
 
 -- what is not a success leaves the output
 kept : (out : List ℕ) (v : Verdict (List ℕ)) → (written out v .answer .n ≡ 0 → ⊥) → written out v .out ≡ out
@@ -84,10 +104,117 @@ pub lines-answers : LinesAnswers
 unfolding toLines
 lines-answers block text bytes =
     let t = outcome-told block text bytes in
-    (t .0, taken-apart (toLines block text .answer) (t .1), kept text (onward (judged block) (λ _. passed (textOf (recordsOf block)))))
+    ((t .0, taken-apart (toLines block text .answer) (t .1)), kept text (onward (judged block) (λ _. passed (textOf (recordsOf block)))))
+
+pub content-answers : ContentAnswers
+unfolding wordsIn
+content-answers text = by (readText text) (text-known text)
+  where
+    by : (v : Verdict (List ℕ)) → told.Known (Room 0) v → Judges TextRow (onward v (λ ws. passed (length ws)))
+    by (passed ws) h = taken-apart (answer 0 (length ws) 0 0) (record { n-fits = omega arith; a-fits = omega (arith, h .most); b-fits = omega arith; c-fits = omega arith })
+    by (refused r) h = (h .listed, taken-apart r (h .packs))
 
 pub block-answers : BlockAnswers
 unfolding toBlock
 block-answers text block =
     let t = answer-told text block in
-    (t .listed, taken-apart (toBlock text block .answer) (t .packs), kept block (onward (readText text) (λ ws. passed (bytesOf (framed ws)))))
+    ((t .listed, taken-apart (toBlock text block .answer) (t .packs)), kept block (onward (readText text) (λ ws. passed (bytesOf (framed ws)))))
+
+-- ---- the calls on a sheet, and on a block and its sheet: rows 40 to 46
+
+-- a row with its a
+rowPacks : (n a : ℕ) → n ≤ 46 → a < 2 ^ 16 → Packs (answer n a 0 0)
+rowPacks n a h k = record { n-fits = omega arith; a-fits = omega arith; b-fits = omega arith; c-fits = omega arith }
+
+pub start-answers : StartAnswers
+unfolding started
+start-answers sheet =
+    both-ways (Writes SheetRow sheet)
+    (eqb (length sheet) (sheetBytes version1)) (leaves (answer 0 0 0 0) (sheetOf version1 [])) (leaves (answer 40 0 0 0) sheet)
+    ((inl refl, taken-apart (answer 0 0 0 0) (rowPacks 0 0 (omega arith) (omega arith))), λ h. absurd (h refl))
+    ((inr refl, taken-apart (answer 40 0 0 0) (rowPacks 40 0 (omega arith) (omega arith))), λ h. refl)
+
+-- a sheet is refused with 40 only
+opened-refused : (sheet : List ℕ) (r : Answer) → opened version1 sheet ≡ refused r → r ≡ answer 40 0 0 0
+unfolding opened
+opened-refused sheet r =
+    both-ways (λ v. v ≡ refused r → r ≡ answer 40 0 0 0) (broken version1 sheet) (refused (answer 40 0 0 0)) (passed (countIn sheet))
+    (λ q. cc) (λ q. absurd (never-passed (sym q)))
+
+pub open-answers : OpenAnswers
+open-answers sheet bytes = by (opened version1 sheet) refl
+  where
+    by : (v : Verdict ℕ) → opened version1 sheet ≡ v → Judges SheetRow v
+    by (passed n) e = let s = sheet-opened version1 sheet n bytes e in taken-apart (answer 0 n 0 0) (rowPacks 0 n (omega arith) (omega (arith, s .0 .most, s .1)))
+    by (refused r) e = rw (opened-refused sheet r e) (refl, taken-apart (answer 40 0 0 0) (rowPacks 40 0 (omega arith) (omega arith)))
+
+-- a refusal that the paper lists, or no more entries than a sheet has room for
+module _ (Own : ℕ → Type 0) where
+  record Listed (r : Answer) : Type 0 where
+    listed : BlockRow (r .n) ⊎ Own (r .n)
+    packs : Packs r
+
+  abbrev Fine : Verdict Both → Type 0
+  Fine (passed t) = length (t .entries) ≤ 64
+  Fine (refused r) = Listed r
+
+  row : (n a : ℕ) → Own n → n ≤ 46 → a < 2 ^ 16 → Fine (refused (answer n a 0 0))
+  row n a h k l = record { listed = inr h; packs = rowPacks n a k l }
+
+  both-answer : (block sheet : List ℕ) (v : Verdict Both) → Fine v → BothAnswer Own block sheet (leaving version1 block sheet v)
+  both-answer block sheet (refused r) h = ((inr (h .listed), taken-apart r (h .packs)), λ _. (refl, refl))
+  both-answer block sheet (passed t) h = ((inl refl, taken-apart _ (rowPacks 0 (length (t .entries)) (omega arith) (omega arith))), λ n. absurd (n refl))
+
+-- ---- each call
+
+-- "block, 40", and then what the call does
+on-both : (Own : ℕ → Type 0) → Own 40 → (does : Both → Verdict Both) → ((rs : List (List ℕ)) (es : List Entry) → All RecordOk rs → length es ≤ 64 → Fine Own (does (both rs es)))
+    → (block sheet : List ℕ) → Below 256 block → Below 256 sheet → BothAnswer Own block sheet (onBoth version1 does block sheet)
+unfolding onBoth
+on-both Own forty does fine block sheet bytes entries =
+    both-answer Own block sheet (onward (judged block) (λ _. onward (opened version1 sheet) (λ _. on))) (judges (judged block) refl (judged-known block bytes))
+  where
+    on : Verdict Both
+    on = does (both (recordsOf block) (entriesOf version1 sheet))
+
+    opens : (k : ℕ) → judged block ≡ passed k → (o : Verdict ℕ) → opened version1 sheet ≡ o → Fine Own (onward o (λ _. on))
+    opens k e (passed n) f =
+        let s = sheet-opened version1 sheet n entries f .0 in fine (recordsOf block) (entriesOf version1 sheet) (only-good block k bytes e .0 .each) (s .most)
+    opens k e (refused r) f = rw (opened-refused sheet r f) (row Own 40 0 forty (omega arith) (omega arith))
+
+    judges : (v : Verdict ℕ) → judged block ≡ v → Known v → Fine Own (onward v (λ _. onward (opened version1 sheet) (λ _. on)))
+    judges (passed k) e h = opens k e (opened version1 sheet) refl
+    judges (refused r) e h = record { listed = inl (h .listed); packs = h .packs }
+
+-- what stands at any place of good records is a word
+found-fits : (rs : List (List ℕ)) (e : Entry) → All RecordOk rs → found rs e < 65536
+found-fits rs e good =
+    getD-below 65536 (recordIn rs (recordNumber e)) (wordNumber e - 1) (omega arith)
+    (all-getD (Below 65536) rs (recordNumber e - 1) [] tt (all-map RecordOk (Below 65536) (λ r h. h .sized) rs good))
+
+pub amend-answers : AmendAnswers
+unfolding amendable
+amend-answers e = on-both AmendRow (omega arith, omega arith) (amendable version1 e) fine
+  where
+    refuses : (n a : ℕ) → 40 ≤ n → n ≤ 44 → a < 2 ^ 16 → Fine AmendRow (refused (answer n a 0 0))
+    refuses n a h k l = row AmendRow n a (h, k) (omega arith) l
+
+    fine : (rs : List (List ℕ)) (es : List Entry) → All RecordOk rs → length es ≤ 64 → Fine AmendRow (amendable version1 e (both rs es))
+    fine rs es good most =
+        by-test (Fine AmendRow) (leb 64 (length es)) _ _ (λ _. refuses 44 0 (omega arith) (omega arith) (omega arith)) λ room.
+        both-ways (Fine AmendRow) (noRecord rs (recordNumber e)) _ _ (refuses 41 0 (omega arith) (omega arith) (omega arith))
+        (both-ways (Fine AmendRow) (noValue rs e) _ _ (refuses 42 0 (omega arith) (omega arith) (omega arith))
+        (both-ways (Fine AmendRow) (not (eqb (oldValue e) (found rs e))) _ _ (refuses 43 (found rs e) (omega arith) (omega arith) (found-fits rs e good))
+        (omega (arith, leb-false 64 (length es) room, length-append es (e ∷ [])))))
+
+pub undo-answers : UndoAnswers
+unfolding undoable
+undo-answers = on-both UndoRow (inl refl) undoable fine
+  where
+    refuses : (n : ℕ) → 45 ≤ n → n ≤ 46 → Fine UndoRow (refused (answer n 0 0 0))
+    refuses n h k = row UndoRow n 0 (inr (h, k)) k (omega arith)
+
+    fine : (rs : List (List ℕ)) (es : List Entry) → All RecordOk rs → length es ≤ 64 → Fine UndoRow (undoable (both rs es))
+    fine rs es good most =
+        both-ways (Fine UndoRow) (eqb (length es) 0) _ _ (refuses 45 (omega arith) (omega arith))
+        (both-ways (Fine UndoRow) (not (stands rs (lastOf es))) _ _ (refuses 46 (omega arith) (omega arith)) (omega (arith, length-take (length es - 1) es)))

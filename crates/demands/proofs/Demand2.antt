@@ -1,23 +1,29 @@
 -- Demand 2 holds.
-use mathlib.Core.Path.{_≡_, sym, ap, _∙_}
-use mathlib.Core.List.{List}
-use Prim.Native.Nat.{ℕ, _≤_}
+use mathlib.Core.Path.{_≡_, sym, ap, _∙_, refl}
+use mathlib.Core.List.{List, _++_}
+use Prim.Native.Nat.{ℕ, _≤_, _+_}
 use borrow.Author.Tests.{le-ltb}
 use lib.ListN.{length, drop}
 use lib.Seq.{take-append-seam}
-use Rattle.units.specs.Answers.{passed}
+use Rattle.units.specs.Answers.{passed, answer, Verdict, refused, onward}
 use Rattle.words.specs.Words.{wordsOf, framed, joined}
-use Rattle.words.specs.Outcomes.{written}
+use Rattle.words.specs.Outcomes.{written, Written, leaves}
 use Rattle.words.proofs.Laws.{words-bytes}
-use Rattle.block.specs.Judging.{inner, judged}
+use Rattle.block.specs.Judging.{inner, judged, Accepted}
 use Rattle.block.specs.Records.{recordsOf}
 use Rattle.block.proofs.Exact.{only-good, every-good, its-records, frame-of}
 use Rattle.lines.specs.Text.{textOf, toLines}
 use Rattle.lines.proofs.Outcome.{when-accepted}
 use Rattle.text.specs.Block.{readText, toBlock}
-use Rattle.demands.specs.Demand2.{AcceptedExactly, OneWay, bytesIn, wrote, blockFrom, standard, LinesRead, BlockLinesBlock, LinesBlockLines, StandardRead, StandardStays, OneStandard}
+use Rattle.demands.specs.Demand2.{AcceptedExactly, OneWay, bytesIn, wrote, blockFrom, standard, LinesRead, BlockLinesBlock, TextGivesBlock, WrittenAccepted, LinesBlockLines, StandardRead, StandardStays, OneStandard}
 use Rattle.demands.proofs.Standard.{text-back}
-use Rattle.demands.proofs.Sound.{text-gives-block}
+use Rattle.demands.proofs.Sound.{its-text}
+use mathlib.Core.Logic.{_⊎_, inl, inr}
+use native.Mathlib.Omega.{arith}
+use Rattle.words.proofs.Writing.{written-either}
+use Rattle.block.specs.Rules.{IsBlock}
+use Rattle.text.proofs.Told.{Known}
+use Rattle.text.proofs.Known.{Room, text-known}
 
 pub accepted-exactly : AcceptedExactly
 accepted-exactly b bytes = (λ k e. only-good b k bytes e, λ rs good. every-good b rs good)
@@ -63,7 +69,32 @@ words-told : (ws vs : List ℕ) → blockFrom ws ≡ blockFrom vs → ws ≡ vs
 words-told ws vs e =
     sym (frame-of ws .between) ∙ ap inner (sym (words-bytes (framed ws)) ∙ ap wordsOf e ∙ words-bytes (framed vs)) ∙ frame-of vs .between
 
--- of an accepted text
+-- ---- what an accepted text becomes
+
+pub text-gives-block : TextGivesBlock
+text-gives-block t ws e =
+    let i = its-text t ws e in
+    let rs = i .0 in
+    let good : IsBlock (blockFrom ws) rs =
+    record { bytes = ap blockFrom (i .2); each = i .1 .each; some = i .1 .some; most = i .1 .most } in
+    (rs, good, every-good (blockFrom ws) rs good)
+
+pub written-accepted : WrittenAccepted
+unfolding toBlock written
+written-accepted t out = by (readText t) refl (text-known t)
+  where
+    taken : (ws : List ℕ) → readText t ≡ passed ws → {w : Written} → let b = blockFrom ws in
+        (w ≡ leaves (answer 29 (length b) 0 0) out) ⊎ (w ≡ leaves (answer 0 (length b) 0 0) (b ++ drop (length b) out)) → w .answer .n ≡ 0 → Accepted (bytesIn w)
+    taken ws e (inl f) z = absurd (omega (arith, ap (λ x. x .answer .n) f))
+    taken ws e (inr f) z =
+        let g = text-gives-block t ws e in
+        rw (f, take-append-seam (blockFrom ws) (drop (length (blockFrom ws)) out)) (record { count = length (g .0); is = g .2 })
+
+    by : (v : Verdict (List ℕ)) → readText t ≡ v → Known (Room 0) v → let w = written out (onward v (λ ws. passed (blockFrom ws))) in w .answer .n ≡ 0 → Accepted (bytesIn w)
+    by (refused r) e h z = absurd (omega (arith, h .listed .0))
+    by (passed ws) e h z = taken ws e (written-either out (blockFrom ws)) z
+
+-- the standard lines
 pub standard-read : StandardRead
 standard-read t ws e =
     let rs = text-gives-block t ws e .0 in

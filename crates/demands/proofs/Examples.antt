@@ -21,23 +21,12 @@ use Rattle.record.specs.Values.{isValue}
 use Rattle.sheet.specs.Sheets.{sheetOf, sheetWith, entriesOf, entries, opened, broken, zeros}
 use Rattle.amending.specs.Places.{noRecord, withValue, stands}
 use Rattle.amending.specs.Amending.{amendable, undoable, onBoth}
-use Rattle.demands.specs.Examples.{blockRows, blockK, blockLeast, BlockRows, amendRows, AmendRows, fieldRows, FieldRows, prefixRows, PrefixRows, PaperRows}
-
-block-rows : BlockRows
-unfolding blockRows blockK blockLeast judged wrongSize walk judgeRecord judgeCards judgeData judgeCounts wrongTotal underLeast firstNotZero firstNotCard passing wordWithin wordsOf bytesOf xorAll ones onesIn recordsOf cut toLines written textOf ended linesOf laid plan part times fieldsOf fieldOf decimal lineCount
-block-rows = refl
-
-amend-rows : AmendRows
-unfolding amendRows blockK judged wrongSize walk judgeRecord judgeData judgeCounts underLeast wordsOf bytesOf xorAll recordsOf cut linesOf laid plan part times fieldsOf fieldOf decimal lineCount bytesFrom framed joined passing sheetOf sheetWith entriesOf entries opened broken zeros isValue noRecord withValue stands amendable undoable onBoth
-amend-rows = refl
-
-field-rows : FieldRows
-unfolding fieldRows number readField columns bytesFrom
-field-rows = refl
-
-prefix-rows : PrefixRows
-unfolding prefixRows table beside
-prefix-rows = refl
+use Rattle.demands.specs.Examples.{blockK, blockLeast, paperRows, PaperRows, prefixRows, PrefixRows}
 
 pub paper-rows : PaperRows
-paper-rows = (block-rows, amend-rows, field-rows, prefix-rows)
+unfolding paperRows blockK blockLeast judged wrongSize walk judgeRecord judgeCards judgeData judgeCounts wrongTotal underLeast firstNotZero firstNotCard passing wordWithin wordsOf bytesOf xorAll ones onesIn recordsOf cut toLines written textOf ended linesOf laid plan part times fieldsOf fieldOf decimal lineCount framed joined sheetOf sheetWith entriesOf entries opened broken zeros isValue noRecord withValue stands amendable undoable onBoth number readField columns bytesFrom
+paper-rows = refl
+
+pub prefix-rows : PrefixRows
+unfolding prefixRows table beside
+prefix-rows = refl

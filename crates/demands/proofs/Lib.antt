@@ -1,5 +1,4 @@
 pub mod Demand1
-pub mod SheetAnswers
 pub mod Demand2
 pub mod Sheets
 pub mod Demand3

@@ -7,15 +7,17 @@ use Prim.Native.Nat.{ℕ, zero, suc, _+_, _-_, _*_, _/_, _%_, _≤_, _<_}
 use native.Mathlib.Omega.{arith}
 use borrow.Author.Tests.{ltb-true, ltb-false}
 use lib.Dec.{ltb, eqb}
-use lib.ListN.{length, getD, take, drop, set, replicate, length-append, length-take, length-drop}
+use lib.ListN.{length, getD, take, drop, set, replicate, length-append, length-take, length-drop, length-replicate}
 use lib.Seq.{sets, sets-eq, drop-length, set-getD, getD-set-other, take-set-le, take-set-lt, drop-set-lt, drop-set-add, length-take-le}
 use Rattle.units.specs.Choice.{if_then_else_}
-use Rattle.words.specs.Words.{word, All}
-use Rattle.words.proofs.Lists.{all-append}
+use Rattle.words.specs.Words.{word, joined, All, Below}
+use Rattle.words.proofs.Lists.{all-append, all-replicate}
 use Rattle.words.proofs.Laws.{length-bytesOf}
 use Rattle.words.proofs.Stores.{sets-left, sets-right}
 use Rattle.record.specs.Lines.{lineCount}
 use Rattle.record.specs.Rules.{KindOk, catalogue, header, dataRecord, RecordOk}
+use Rattle.block.specs.Rules.{blockOf, IsBlock}
+use Rattle.block.proofs.Exact.{every-good, its-records}
 use Rattle.field.specs.Writing.{fieldOf}
 use Rattle.field.proofs.Written.{length-fieldOf}
 use Rattle.laying.specs.Laying.{fieldsOf, shorter, part, times, plan, laid, cardLines, ended}
@@ -24,7 +26,7 @@ use Rattle.lines.specs.Lines.{dataPlan, shown, linesOf}
 use Rattle.lines.specs.Text.{textOf}
 use Rattle.lines.specs.Columns.{endsBefore, columnsBefore}
 use Rattle.lines.proofs.Sizes.{sized, text-bound, data-count, data-size, data-lines, cards-lines, data-is, length-plan, fieldsIn-plan}
-use Rattle.demands.specs.Lines.{LineCount, LineWidth, TextBound, TextReached, SixColumns, WordStands}
+use Rattle.demands.specs.Lines.{LineCount, LineWidth, TextBound, longest, TextReached, SixColumns, WordStands}
 
 pub line-count : LineCount
 line-count r h = sized r h .lines
@@ -86,15 +88,59 @@ line-width r h = by (h .kind)
 
 -- ---- the largest text
 
-pub text-reached : TextReached
+-- a record with these counts has that text
+reached : (r : List ℕ) → RecordOk r → word r 2 ≡ 1002 → word r 13 ≡ 16 → word r 14 ≡ 0 → word r 15 ≡ 1 → word r 16 ≡ 7981 → length (textOf (r ∷ [])) ≡ 55971
 unfolding textOf lineCount
-text-reached r h kind l j m n =
+reached r h kind l j m n =
     let z = sized r h in
     let e = ap (λ k. eqb k 1002) kind in
     let d = is-data r h kind in
     let k : length r ≡ 7998 = d .sum ∙ rw (l, j, m, n) refl in
     let c : lineCount r ≡ 7983 = data-count r e ∙ rw (l, j, m, n) refl in
     omega (arith, length-append (ended (linesOf r)) [], z .bytes, data-size r e)
+
+-- the record, with any words behind its counts
+abbrev with-values : List ℕ → List ℕ
+with-values vs = 7998 ∷ 1002 ∷ replicate 10 0 ++ (16 ∷ 0 ∷ 1 ∷ 7981 ∷ vs)
+
+abbrev Word : ℕ → Type 0
+Word w = w < 65536
+
+values-ok : (vs : List ℕ) → length vs ≡ 7982 → Below 65536 vs → RecordOk (with-values vs)
+values-ok vs h b =
+    let l : length (with-values vs) ≡ 7998 = omega arith in
+    record {
+      total = sym l;
+      kind = dataRecord refl (record {
+        lprol = record { least-is = omega arith; sign = omega arith };
+        jpar = record { least-is = omega arith; sign = omega arith };
+        mpar = record { least-is = omega arith; sign = omega arith };
+        nrow = record { least-is = omega arith; sign = omega arith };
+        sum = l;
+      });
+      sized = all-append Word (7998 ∷ 1002 ∷ replicate 10 0) (16 ∷ 0 ∷ 1 ∷ 7981 ∷ vs) (omega arith, (omega arith, all-replicate Word 10 0 (omega arith))) (omega arith, (omega arith, (omega arith, (omega arith, b))));
+    }
+
+longest-ok : RecordOk longest
+unfolding longest
+longest-ok = values-ok (replicate 7982 0) (length-replicate {A = ℕ} 7982 0) (all-replicate Word 7982 0 (omega arith))
+
+longest-text : length (textOf (longest ∷ [])) ≡ 55971
+unfolding longest
+longest-text = reached (with-values (replicate 7982 0)) longest-ok refl refl refl refl refl
+
+longest-long : length longest ≡ 7998
+unfolding longest
+longest-long = omega (arith, length-replicate {A = ℕ} 7982 0)
+
+longest-block : IsBlock (blockOf (longest ∷ [])) (longest ∷ [])
+unfolding joined
+longest-block = record { bytes = refl; each = (longest-ok, tt); some = omega arith; most = omega (arith, longest-long, length-append longest []) }
+
+pub text-reached : TextReached
+text-reached =
+    let b = blockOf (longest ∷ []) in
+    (record { count = 1; is = every-good b (longest ∷ []) longest-block }, ap (λ rs. length (textOf rs)) (its-records b (longest ∷ []) longest-block) ∙ longest-text)
 
 -- ---- one word changed
 

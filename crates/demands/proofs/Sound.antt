@@ -1,33 +1,26 @@
 -- An accepted text is one of good records, so what it becomes is an accepted block.
 use mathlib.Core.Path.{_≡_, refl, sym, ap, _∙_}
-use mathlib.Core.Logic.{_⊎_, inl, inr}
 use mathlib.Core.List.{List, [], _∷_, _++_, append-assoc}
 use Prim.Native.Nat.{ℕ, suc, _+_, _^_, _≤_, _<_}
 use native.Mathlib.Omega.{arith}
 use borrow.Author.Tests.{ltb-false}
 use lib.Dec.{ltb, eqb}
-use lib.ListN.{length, drop}
-use lib.Seq.{take-append-seam}
+use lib.ListN.{length}
 use Rattle.units.specs.Answers.{answer, Verdict, passed, refused, onward}
 use Rattle.units.proofs.Verdicts.{never-passed, else-passed}
-use Rattle.words.specs.Words.{bytesOf, joined, framed, All}
-use Rattle.words.specs.Outcomes.{Written, written, leaves}
-use Rattle.words.proofs.Writing.{written-either}
+use Rattle.words.specs.Words.{joined, All}
 use Rattle.words.proofs.Lists.{all-append}
 use Rattle.record.specs.Rules.{RecordOk}
-use Rattle.block.specs.Judging.{Accepted}
-use Rattle.block.specs.Rules.{IsBlock}
-use Rattle.block.proofs.Exact.{some-record, every-good}
+use Rattle.block.proofs.Exact.{some-record}
 use Rattle.laying.specs.Laying.{Line}
 use Rattle.cutting.specs.Cutting.{linesIn}
 use Rattle.heading.specs.Heading.{Shape, Read}
 use Rattle.reading.specs.Reading.{lineStep, atEnd, readLines}
-use Rattle.text.specs.Block.{readText, toBlock}
+use Rattle.text.specs.Block.{readText}
 use Rattle.text.specs.Spelled.{Readable, Blanks, LinesSpell, no-lines, a-line, Spelled, at-end, blank-line, a-record}
 use Rattle.text.proofs.Told.{Known}
 use Rattle.text.proofs.Opened.{wordsToCome, Opens, skipped, opens, Given, Taken, line-known}
-use Rattle.text.proofs.Known.{lines-most, room-on, Room, text-known, words-room}
-use Rattle.demands.specs.Demand2.{bytesIn, TextGivesBlock, WrittenAccepted}
+use Rattle.text.proofs.Known.{lines-most, room-on, words-room}
 use Rattle.demands.specs.Texts.{IsText}
 use Rattle.demands.proofs.Gathered.{done}
 
@@ -147,29 +140,3 @@ its-text t ws e =
       record { size = size; lines = w .readable; spelled = w .spelled; each = w .each; some = some-record (w .records) (omega arith); most = omega arith },
       w .words,
     )
-
-pub text-gives-block : TextGivesBlock
-text-gives-block t ws e =
-    let i = its-text t ws e in
-    let rs = i .0 in
-    let good : IsBlock (bytesOf (framed ws)) rs =
-    record { bytes = ap (λ l. bytesOf (framed l)) (i .2); each = i .1 .each; some = i .1 .some; most = i .1 .most } in
-    (rs, good, every-good (bytesOf (framed ws)) rs good)
-
-pub written-accepted : WrittenAccepted
-unfolding toBlock written
-written-accepted t out = by (readText t) refl (text-known t)
-  where
-    block : List ℕ → List ℕ
-    block ws = bytesOf (framed ws)
-
-    taken : (ws : List ℕ) → readText t ≡ passed ws → {w : Written} → let b = block ws in
-        (w ≡ leaves (answer 29 (length b) 0 0) out) ⊎ (w ≡ leaves (answer 0 (length b) 0 0) (b ++ drop (length b) out)) → w .answer .n ≡ 0 → Accepted (bytesIn w)
-    taken ws e (inl f) z = absurd (omega (arith, ap (λ x. x .answer .n) f))
-    taken ws e (inr f) z =
-        let g = text-gives-block t ws e in
-        rw (f, take-append-seam (block ws) (drop (length (block ws)) out)) (record { count = length (g .0); is = g .2 })
-
-    by : (v : Verdict (List ℕ)) → readText t ≡ v → Known (Room 0) v → let w = written out (onward v (λ ws. passed (block ws))) in w .answer .n ≡ 0 → Accepted (bytesIn w)
-    by (refused r) e h z = absurd (omega (arith, h .listed .0))
-    by (passed ws) e h z = taken ws e (written-either out (block ws)) z

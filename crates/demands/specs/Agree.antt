@@ -11,6 +11,7 @@ use Rattle.block.specs.declared.Place.{Place}
 use Rattle.block.specs.Steps.{stepOf, findOf}
 use Rattle.words.specs.Words.{wordsOf}
 use Rattle.words.specs.Outcomes.{Written, leaves}
+use Rattle.words.specs.Writing.{Put}
 use Rattle.lines.specs.Cases.{linedOf}
 use Rattle.lines.specs.Text.{toLines}
 use Rattle.text.specs.declared.Content.{Content}
@@ -76,6 +77,10 @@ BlockAgrees = (text block : List ℕ) → WrittenAgree blockedOf (toBlock text b
 -- `cedar_to_block`
 abbrev pub CedarBlockAgrees : Type 0
 CedarBlockAgrees = (text block : List ℕ) → CedarWrittenAgree (toBlock text block)
+
+-- a writer: `listed::list`, `lined::print`, `blocked::print` and what they call promise which text is put at which place
+abbrev pub PutAgrees : Type 0
+PutAgrees = (before text after also : List ℕ) (at n m : ℕ) → Put before at text after n → Put before at text also m → (after ≡ also) × (n ≡ m)
 
 -- `sheet::open`
 abbrev pub OpenAgrees : Type 0

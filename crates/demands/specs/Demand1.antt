@@ -1,56 +1,91 @@
--- Demand 1: each call ends with an accepted answer or one numbered refusal. Its numbers are the paper's, and can be taken apart again.
+-- Demand 1: "Any bytes as a block, as lines or as an amendment sheet: each call ends with an accepted answer or one numbered
+-- refusal, relies on no earlier look, and a refused call changes no byte of any lent buffer."
+-- No call has a `requires`, and its outcome is a function of what it was lent: so it ends on any bytes, and no earlier look counts.
+-- Here is what that leaves to say: which numbers an answer has, and what a refusal leaves. `Below 256` says that a lent slice has bytes.
 use mathlib.Core.Path.{_≡_}
 use mathlib.Core.Logic.{_⊎_}
 use mathlib.Core.List.{List}
 use Prim.Native.Nat.{ℕ, _≤_}
 use Rattle.units.specs.declared.Answer.{Answer}
-use Rattle.units.specs.Answers.{packedOf, takenApart}
+use Rattle.units.specs.Answers.{answer, Verdict, passed, refused, packedOf, takenApart}
 use Rattle.words.specs.Words.{Below}
+use Rattle.words.specs.Outcomes.{Written}
+use Rattle.block.specs.Judging.{judged}
 use Rattle.lines.specs.Text.{toLines}
-use Rattle.text.specs.Block.{toBlock}
-use Rattle.sheet.specs.Sheets.{Entry, version1, started}
+use Rattle.text.specs.Block.{wordsIn, toBlock}
+use Rattle.sheet.specs.Sheets.{Entry, version1, opened, started}
 use Rattle.amending.specs.Amending.{Outcome, amend, undo}
-use Rattle.cedar.specs.Calls.{judgeAnswer, prefixAnswer}
+use Rattle.cedar.specs.Calls.{prefixAnswer}
+
+-- ---- the numbers of an answer
 
 -- the four numbers that a C caller takes out of the one it was given
 abbrev pub Kept : Answer → Type 0
 Kept r = takenApart (packedOf r) ≡ r
 
+-- "Success is n = 0"; else n is one of these rows
+abbrev pub Numbered : (ℕ → Type 0) → Answer → Type 0
+Numbered Row r = ((r .n ≡ 0) ⊎ Row (r .n)) × Kept r
+
+-- a judgement: what is refused has the number of one of these rows
+abbrev pub Judges : (ℕ → Type 0) → Verdict ℕ → Type 0
+Judges Row (passed a) = Kept (answer 0 a 0 0)
+Judges Row (refused r) = Row (r .n) × Kept r
+
+-- what a call on one lent buffer leaves: "Every refusal leaves every buffer untouched"
+abbrev pub Writes : (ℕ → Type 0) → List ℕ → Written → Type 0
+Writes Row before w = Numbered Row (w .answer) × ((w .answer .n ≡ 0 → ⊥) → w .out ≡ before)
+
+-- ---- the calls on one buffer
+
 -- "Order for a block: 1, 2, 3, then each record: 4, 5, 6, 7, 8, 9"
+abbrev pub BlockRow : ℕ → Type 0
+BlockRow n = (1 ≤ n) × (n ≤ 9)
+
 abbrev pub JudgeAnswers : Type 0
-JudgeAnswers = (block : List ℕ) → Below 256 block → (judgeAnswer block .n ≤ 9) × Kept (judgeAnswer block)
+JudgeAnswers = (block : List ℕ) → Below 256 block → Judges BlockRow (judged block)
+
+-- "To lines: the block, then 29"
+abbrev pub LinesRow : ℕ → Type 0
+LinesRow n = BlockRow n ⊎ (n ≡ 29)
+
+abbrev pub LinesAnswers : Type 0
+LinesAnswers = (block text : List ℕ) → Below 256 block → Writes LinesRow text (toLines block text)
+
+-- "Order for text: 30, then line by line ... At the end 21": rows 20 to 28, and 30
+abbrev pub TextRow : ℕ → Type 0
+TextRow n = (20 ≤ n) × (n ≤ 30) × (n ≡ 29 → ⊥)
+
+abbrev pub ContentAnswers : Type 0
+ContentAnswers = (text : List ℕ) → Judges TextRow (wordsIn text)
+
+-- "then 29"
+abbrev pub ToBlockRow : ℕ → Type 0
+ToBlockRow n = (20 ≤ n) × (n ≤ 30)
+
+abbrev pub BlockAnswers : Type 0
+BlockAnswers = (text block : List ℕ) → Writes ToBlockRow block (toBlock text block)
+
+-- "sheet not 520 bytes (all that starting tests), or its mark, version, count, zero byte or an entry past the count is wrong"
+abbrev pub SheetRow : ℕ → Type 0
+SheetRow n = n ≡ 40
+
+abbrev pub OpenAnswers : Type 0
+OpenAnswers = (sheet : List ℕ) → Below 256 sheet → Judges SheetRow (opened version1 sheet)
+
+abbrev pub StartAnswers : Type 0
+StartAnswers = (sheet : List ℕ) → Writes SheetRow sheet (started version1 sheet)
 
 -- "The prefix call always succeeds"
 abbrev pub PrefixAnswers : Type 0
 PrefixAnswers = (instrument : ℕ) → (prefixAnswer instrument .n ≡ 0) × Kept (prefixAnswer instrument)
 
--- "To lines: the block, then 29"; "Every refusal leaves every buffer untouched"
-abbrev pub LinesAnswers : Type 0
-LinesAnswers =
-    (block text : List ℕ) → Below 256 block →
-    ((toLines block text .answer .n ≤ 9) ⊎ (toLines block text .answer .n ≡ 29)) × Kept (toLines block text .answer)
-    × ((toLines block text .answer .n ≡ 0 → ⊥) → toLines block text .out ≡ text)
+-- ---- the calls on a block and its sheet
 
--- "Order for text: 30, then line by line. ... At the end 21, then 29": rows 20 to 30; "Every refusal leaves every buffer untouched"
-abbrev pub BlockAnswers : Type 0
-BlockAnswers =
-    (text block : List ℕ) →
-    ((toBlock text block .answer .n ≡ 0) ⊎ ((20 ≤ toBlock text block .answer .n) × (toBlock text block .answer .n ≤ 30)))
-    × Kept (toBlock text block .answer)
-    × ((toBlock text block .answer .n ≡ 0 → ⊥) → toBlock text block .out ≡ block)
-
--- "sheet not 520 bytes (all that starting tests)"
-abbrev pub StartAnswers : Type 0
-StartAnswers =
-    (sheet : List ℕ) →
-    ((started version1 sheet .answer .n ≡ 0) ⊎ (started version1 sheet .answer .n ≡ 40)) × Kept (started version1 sheet .answer)
-    × ((started version1 sheet .answer .n ≡ 0 → ⊥) → started version1 sheet .out ≡ sheet)
-
--- the block's numbers, 0 to 9, or rows of the call's own; "Every refusal leaves every buffer untouched"
+-- the block's rows or the call's own; "Every refusal leaves every buffer untouched"
 abbrev pub BothAnswer : (ℕ → Type 0) → List ℕ → List ℕ → Outcome → Type 0
 BothAnswer Own block sheet o =
-    ((o .answer .n ≤ 9) ⊎ Own (o .answer .n)) × Kept (o .answer)
-    × ((o .answer .n ≡ 0 → ⊥) → (o .block ≡ block) × (o .sheet ≡ sheet))
+    Numbered (λ n. BlockRow n ⊎ Own n) (o .answer) × ((o .answer .n ≡ 0 → ⊥) → (o .block ≡ block) × (o .sheet ≡ sheet))
 
 -- "Amend: block, 40, 44, 41, 42, 43"
 abbrev pub AmendRow : ℕ → Type 0

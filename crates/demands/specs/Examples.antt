@@ -1,4 +1,4 @@
--- Document 01, "Examples": the rows marked P as one table of four sorts: blocks and their lines, amendments, number fields, prefixes.
+-- Document 01, "Examples": "The P rows are proved as a single table". And the prefixes that it names.
 use Prim.Native.Nat.{ℕ, _-_}
 use Prim.Native.String.{String}
 use mathlib.Core.Path.{_≡_}
@@ -8,7 +8,6 @@ use lib.Seq.{slice}
 use Rattle.units.specs.declared.Answer.{Answer}
 use Rattle.units.specs.Answers.{answer, Verdict, passed, refused}
 use Rattle.words.specs.Words.{bytesOf}
-use Rattle.record.specs.Lines.{lineCount}
 use Rattle.block.specs.Judging.{judged}
 use Rattle.block.specs.Records.{recordsOf}
 use Rattle.lines.specs.Lines.{linesOf}
@@ -37,33 +36,14 @@ pub record Found : Type 0 where
   pub lined-as : Answer
   pub lines : List ℕ
 
--- the line count of each record of an accepted block
+-- how many lines each record of an accepted block has
 abbrev pub linesFound : List (List ℕ) → Verdict ℕ → List ℕ
-linesFound rs (passed k) = map lineCount rs
+linesFound rs (passed k) = map (λ r. length (linesOf r)) rs
 linesFound rs (refused r) = []
 
 -- what the definitions find of these bytes
 abbrev pub foundOf : List ℕ → Found
 foundOf b = record { judged-as = judgeAnswer b; lined-as = toLines b [] .answer; lines = linesFound (recordsOf b) (judged b) }
-
--- a block's words, and what is found of its bytes
-pub record Row : Type 0 where
-  pub block : List ℕ
-  pub found : Found
-
--- examples 1, 2, 6 and 8: -32516 is the word 33020, and one bit off is 33021; with NROW 1 it is 33023; K's "text is 6 lines, 150 bytes"
-unfoldable pub blockRows : List Row
-unfolding blockK blockLeast
-blockRows =
-    record { block = blockK 2 900 33020; found = record { judged-as = answer 0 1 0 0; lined-as = answer 29 150 0 0; lines = 6 ∷ [] } }
-    ∷ record { block = blockK 2 900 33021; found = record { judged-as = answer 3 0 0 1; lined-as = answer 3 0 0 1; lines = [] } }
-    ∷ record { block = blockLeast 999; found = record { judged-as = answer 0 1 0 0; lined-as = answer 29 97 0 0; lines = 1 ∷ [] } }
-    ∷ record { block = blockK 1 900 33023; found = record { judged-as = answer 9 1 1 0; lined-as = answer 9 1 1 0; lines = [] } }
-    ∷ []
-
--- the rows are what is found
-abbrev pub BlockRows : Type 0
-BlockRows = map (λ r. foundOf (bytesOf (r .block))) blockRows ≡ map (λ r. r .found) blockRows
 
 -- the bytes of K, and of a sheet of so many entries with these bytes: "Entries past the count are zero"
 abbrev pub bytesK : List ℕ
@@ -106,37 +86,49 @@ amendedK =
       columns = text "   905";
     }
 
--- examples 3, 4 and 5
-unfoldable pub amendRows : List (List Call × Left)
-amendRows =
-    (example3 ∷ [], amendedK)
-    ∷ (example3 ∷ undoes ∷ [], asBefore (answer 0 1 0 0 ∷ answer 0 0 0 0 ∷ []))
-    ∷ (amends (1 ∷ 20 ∷ 550 ∷ 905 ∷ []) ∷ [], asBefore (answer 42 0 0 0 ∷ []))
-    ∷ (amends (1 ∷ 22 ∷ 901 ∷ 905 ∷ []) ∷ [], asBefore (answer 43 900 0 0 ∷ []))
-    ∷ []
-
--- the rows are what the calls leave
-abbrev pub AmendRows : Type 0
-AmendRows = map (λ r. leftOf (r .0)) amendRows ≡ map (λ r. r .1) amendRows
-
--- what a field is read as, where it is the second field of line 4
+-- what a field is read as, where it is the second field of line 4: "give 22" with the line and the field's first column
 abbrev pub fieldFound : String → Verdict ℕ
 fieldFound s = number 4 (text "     1" ++ text s) 1
 
--- example 7: -32768 is the word 32768; "give 22" with the line and the field's first column
-unfoldable pub fieldRows : List (String × Verdict ℕ)
-fieldRows =
-    ("-32768", passed 32768)
-    ∷ ("032767", passed 32767)
-    ∷ ("    +5", passed 5)
-    ∷ ("-32769", refused (answer 22 4 7 0))
-    ∷ ("032768", refused (answer 22 4 7 0))
-    ∷ ("12    ", refused (answer 22 4 7 0))
+-- ---- the table
+
+-- what a row gives, and what is found of it: of a block's words, of calls on K and an empty sheet, of a field
+pub data Row : Type 0 where
+  ofBlock : List ℕ → Found → Row
+  ofCalls : List Call → Left → Row
+  ofField : String → Verdict ℕ → Row
+
+-- the row with what the definitions find
+abbrev pub computed : Row → Row
+computed (ofBlock words found) = ofBlock words (foundOf (bytesOf words))
+computed (ofCalls calls left) = ofCalls calls (leftOf calls)
+computed (ofField field read) = ofField field (fieldFound field)
+
+-- a row and the number of its example; -32516 is the word 33020, and one bit off is 33021; -32768 is the word 32768
+unfoldable pub paperRows : List (ℕ × Row)
+unfolding blockK blockLeast
+paperRows =
+    (1, ofBlock (blockK 2 900 33020) (record { judged-as = answer 0 1 0 0; lined-as = answer 29 150 0 0; lines = 6 ∷ [] }))
+    ∷ (2, ofBlock (blockK 2 900 33021) (record { judged-as = answer 3 0 0 1; lined-as = answer 3 0 0 1; lines = [] }))
+    ∷ (3, ofCalls (example3 ∷ []) amendedK)
+    ∷ (4, ofCalls (example3 ∷ undoes ∷ []) (asBefore (answer 0 1 0 0 ∷ answer 0 0 0 0 ∷ [])))
+    ∷ (5, ofCalls (amends (1 ∷ 20 ∷ 550 ∷ 905 ∷ []) ∷ []) (asBefore (answer 42 0 0 0 ∷ [])))
+    ∷ (5, ofCalls (amends (1 ∷ 22 ∷ 901 ∷ 905 ∷ []) ∷ []) (asBefore (answer 43 900 0 0 ∷ [])))
+    ∷ (6, ofBlock (blockLeast 999) (record { judged-as = answer 0 1 0 0; lined-as = answer 29 97 0 0; lines = 1 ∷ [] }))
+    ∷ (7, ofField "-32768" (passed 32768))
+    ∷ (7, ofField "032767" (passed 32767))
+    ∷ (7, ofField "    +5" (passed 5))
+    ∷ (7, ofField "-32769" (refused (answer 22 4 7 0)))
+    ∷ (7, ofField "032768" (refused (answer 22 4 7 0)))
+    ∷ (7, ofField "12    " (refused (answer 22 4 7 0)))
+    ∷ (8, ofBlock (blockK 1 900 33023) (record { judged-as = answer 9 1 1 0; lined-as = answer 9 1 1 0; lines = [] }))
     ∷ []
 
--- the rows are what is read
-abbrev pub FieldRows : Type 0
-FieldRows = map (λ e. fieldFound (e .0)) fieldRows ≡ map (λ e. e .1) fieldRows
+-- each row is what is found
+abbrev pub PaperRows : Type 0
+PaperRows = map (λ r. (r .0, computed (r .1))) paperRows ≡ paperRows
+
+-- ---- prefixes
 
 -- "MLH" of the listing's example; "5140 is AQF"; "7240 has no prefix. It and every unlisted code answer "---""
 unfoldable pub prefixRows : List (ℕ × String)
@@ -145,7 +137,3 @@ prefixRows = (30, "MLH") ∷ (5140, "AQF") ∷ (7240, "---") ∷ (0, "---") ∷ 
 -- the rows are what the table answers
 abbrev pub PrefixRows : Type 0
 PrefixRows = map (λ e. prefixOf (e .0)) prefixRows ≡ map (λ e. letters (e .1)) prefixRows
-
--- "The P rows are proved as a single table"
-abbrev pub PaperRows : Type 0
-PaperRows = BlockRows × AmendRows × FieldRows × PrefixRows

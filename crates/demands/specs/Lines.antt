@@ -2,13 +2,14 @@
 use mathlib.Core.Path.{_≡_}
 use mathlib.Core.List.{List, [], _∷_, _++_}
 use Prim.Native.Nat.{ℕ, _+_, _≤_, _<_}
-use lib.ListN.{length, getD, set}
+use lib.ListN.{length, getD, set, replicate}
 use lib.Seq.{sets}
 use Rattle.words.specs.Words.{word, All, Below}
 use Rattle.record.specs.Lines.{lineCount}
 use Rattle.record.specs.Rules.{RecordOk}
 use Rattle.block.specs.Judging.{Accepted}
 use Rattle.block.specs.Records.{recordsOf}
+use Rattle.block.specs.Rules.{blockOf}
 use Rattle.field.specs.Writing.{fieldOf}
 use Rattle.lines.specs.Lines.{linesOf}
 use Rattle.lines.specs.Text.{textOf}
@@ -27,10 +28,12 @@ abbrev pub TextBound : Type 0
 TextBound = (b : List ℕ) → Below 256 b → Accepted b → length (textOf (recordsOf b)) ≤ 55971
 
 -- "reached by LPROL 16, JPAR 0, MPAR 1, NROW 7,981"
+unfoldable pub longest : List ℕ
+longest = 7998 ∷ 1002 ∷ replicate 10 0 ++ (16 ∷ 0 ∷ 1 ∷ 7981 ∷ replicate 7982 0)
+
+-- a block of that record alone is accepted, and its text has as many bytes
 abbrev pub TextReached : Type 0
-TextReached =
-    (r : List ℕ) → RecordOk r → word r 2 ≡ 1002 → word r 13 ≡ 16 → word r 14 ≡ 0 → word r 15 ≡ 1 → word r 16 ≡ 7981 →
-    length (textOf (r ∷ [])) ≡ 55971
+TextReached = let b = blockOf (longest ∷ []) in Accepted b × (length (textOf (recordsOf b)) ≡ 55971)
 
 -- a word of a Data record behind its counts, changed: the text differs in that word's six columns only
 abbrev pub SixColumns : Type 0
