@@ -13,8 +13,8 @@ use Rattle.words.specs.Words.{word, All}
 use Rattle.record.specs.Lines.{linesNeeded, lineCount}
 use Rattle.record.specs.Rules.{CardsOk, DataOk, KindOk, catalogue, header, dataRecord, RecordOk}
 use Rattle.record.proofs.Passed.{least-at}
-use Rattle.laying.specs.Laying.{Line}
-use Rattle.lines.specs.Lines.{dataPlan, kindShown}
+use Rattle.laying.specs.Laying.{Line, dataPlan}
+use Rattle.lines.specs.Lines.{kindShown}
 use Rattle.lines.proofs.Sizes.{is-cards, data-count}
 use Rattle.heading.specs.Heading.{card, fields, gives, cardsLine, countsIn, planLine, catalogueLine, headerFields, headerLine, countFields, prologueFields, dataLine, kindLine, firstLine}
 use Rattle.reading.specs.Reading.{inState}

@@ -11,8 +11,8 @@ use Rattle.record.specs.Judging.{wordsNeeded}
 use Rattle.record.specs.Lines.{lineCount}
 use Rattle.record.specs.Rules.{CardWord, CardsOk, DataOk, KindOk, catalogue, header, dataRecord, RecordOk}
 use Rattle.field.specs.Reading.{columns}
-use Rattle.laying.specs.Laying.{Line}
-use Rattle.lines.specs.Lines.{dataPlan, kindShown, shown}
+use Rattle.laying.specs.Laying.{Line, dataPlan}
+use Rattle.lines.specs.Lines.{kindShown, shown}
 use Rattle.lines.proofs.Sizes.{is-cards, data-count}
 use Rattle.heading.specs.Heading.{Shape, card, fields, Read}
 use Rattle.text.specs.Spelled.{Printed, Readable, LineSpells, LinesSpell, no-lines, a-line, CardsSpelled, RecordSpelled, as-catalogue, as-header, as-data}

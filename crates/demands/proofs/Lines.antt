@@ -20,9 +20,9 @@ use Rattle.block.specs.Rules.{blockOf, IsBlock}
 use Rattle.block.proofs.Exact.{every-good, its-records}
 use Rattle.field.specs.Writing.{fieldOf}
 use Rattle.field.proofs.Written.{length-fieldOf}
-use Rattle.laying.specs.Laying.{fieldsOf, shorter, part, times, plan, laid, cardLines, ended}
+use Rattle.laying.specs.Laying.{fieldsOf, shorter, part, times, plan, laid, cardLines, ended, dataPlan}
 use Rattle.laying.proofs.Turns.{length-fieldsOf, fieldsIn}
-use Rattle.lines.specs.Lines.{dataPlan, shown, linesOf}
+use Rattle.lines.specs.Lines.{shown, linesOf}
 use Rattle.lines.specs.Text.{textOf}
 use Rattle.lines.specs.Columns.{endsBefore, columnsBefore}
 use Rattle.lines.proofs.Sizes.{sized, text-bound, data-count, data-size, data-lines, cards-lines, data-is, length-plan, fieldsIn-plan}

@@ -20,9 +20,9 @@ use Rattle.field.specs.Reading.{columns, readField}
 use Rattle.field.proofs.Written.{length-fieldOf, bytes-fieldOf}
 use Rattle.field.proofs.Back.{read-written}
 use Rattle.units.proofs.Choosing.{both-ways}
-use Rattle.laying.specs.Laying.{Line, fieldsOf, laid, cardLines, ended}
+use Rattle.laying.specs.Laying.{Line, fieldsOf, laid, cardLines, ended, dataPlan}
 use Rattle.laying.proofs.Turns.{length-fieldsOf, fieldsIn}
-use Rattle.lines.specs.Lines.{dataPlan, kindShown, shown, linesOf}
+use Rattle.lines.specs.Lines.{kindShown, shown, linesOf}
 use Rattle.lines.specs.Text.{textOf}
 use Rattle.lines.proofs.Sizes.{sized, is-cards, cards-lines, data-lines, fieldsIn-plan, text-most}
 use Rattle.cutting.specs.Cutting.{onto, linesIn, endLength}

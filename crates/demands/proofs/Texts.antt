@@ -13,8 +13,8 @@ use Rattle.words.proofs.Lists.{all-parts}
 use Rattle.record.specs.Lines.{lineCount}
 use Rattle.record.specs.Rules.{RecordOk}
 use Rattle.block.proofs.Exact.{ok-long}
-use Rattle.laying.specs.Laying.{Line}
-use Rattle.lines.specs.Lines.{dataPlan, kindShown, shown}
+use Rattle.laying.specs.Laying.{Line, dataPlan}
+use Rattle.lines.specs.Lines.{kindShown, shown}
 use Rattle.heading.specs.Heading.{Shape, card, fields, gives}
 use Rattle.reading.specs.Reading.{inState, atEnd, readLines}
 use Rattle.text.specs.Block.{readText}

@@ -10,8 +10,7 @@ use Rattle.units.specs.Answers.{answer, Verdict, passed, refused, onward}
 use Rattle.words.specs.Words.{word}
 use Rattle.record.specs.Judging.{underLeast, wordsNeeded}
 use Rattle.record.specs.Lines.{linesNeeded}
-use Rattle.laying.specs.Laying.{Line}
-use Rattle.lines.specs.Lines.{dataPlan}
+use Rattle.laying.specs.Laying.{Line, dataPlan}
 use Rattle.columns.specs.Columns.{blankAfter, columnOf, numbers, zeros}
 
 -- a line still to come of a record: a card, or so many number fields

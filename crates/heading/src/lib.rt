@@ -52,8 +52,7 @@ fn put_head(total: Words, kind: u16, used: Words, row: &[u16], block: &mut [u8],
     let first = so.0 + 1;
     let second = first + 1;
     let third = second + 1;
-    let ltot = total.0;
-    keeping::keep_word(ltot as u16, block, Words(first));
+    keeping::keep_word(units::saying_words(total), block, Words(first));
     keeping::keep_word(kind, block, Words(second));
     keeping::keep_words(row, Words(2), used, block, Words(third));
 }

@@ -2,7 +2,7 @@
 use Prim.Native.Nat.{ℕ, zero, suc, _+_, _/_, _%_}
 use mathlib.Core.List.{List, [], _∷_, _++_}
 use lib.ListN.{take, drop, replicate}
-use Rattle.words.specs.Words.{bytesOf}
+use Rattle.words.specs.Words.{word, bytesOf}
 use Rattle.field.specs.Writing.{fieldOf}
 
 -- a line is its bytes, without its end
@@ -31,6 +31,10 @@ times (suc k) ns = ns ++ times k ns
 -- "Data prologue, 1-D codes, 1-D values, 2-D codes and each 2-D row each begin on a new line"
 unfoldable pub plan : ℕ → ℕ → ℕ → ℕ → List ℕ
 plan lprol jpar mpar nrow = part lprol ++ (part jpar ++ (part jpar ++ times (nrow + 1) (part mpar)))
+
+-- the plan of a Data record, from its words 13 to 16
+abbrev pub dataPlan : List ℕ → List ℕ
+dataPlan r = plan (word r 13) (word r 14) (word r 15) (word r 16)
 
 -- words laid out in lines of so many fields
 unfoldable pub laid : List ℕ → List ℕ → List Line

@@ -6,6 +6,7 @@ ghost use mathlib.Core.Path.{_≡_};
 ghost use mathlib.Core.List.{[], _∷_, _++_};
 ghost use Prim.Native.Nat.{_+_, _*_, _≤_, min};
 ghost use lib.ListN.{length, take, drop};
+ghost use Rattle.units.specs.Units.{wordsOfCards};
 ghost use Rattle.words.specs.Words.{wordsOf};
 ghost use Rattle.words.specs.Writing.{Room, Put};
 ghost use Rattle.record.specs.Judging.{wordsNeeded};
@@ -95,7 +96,7 @@ fn write_rows(
 
 // Writes so many cards from place `from` on, each a line of 80 columns.
 pub fn write_cards(whole: &[u8], from: Words, cards: Lines, out: &mut [u8], at: Bytes) -> Bytes
-    requires { ⌜ (from .0 + cards .0 * 40 ≤ length (wordsOf (now whole))) × Room (now out) (at .0) (ended (cardLines (cards .0) (drop (from .0) (wordsOf (now whole))))) ⌝ }
+    requires { ⌜ (from .0 + wordsOfCards (cards .0) ≤ length (wordsOf (now whole))) × Room (now out) (at .0) (ended (cardLines (cards .0) (drop (from .0) (wordsOf (now whole))))) ⌝ }
     ensures { λ r. ⌜ Put (now (out .entry)) (at .0) (ended (cardLines (cards .0) (drop (from .0) (wordsOf (now (whole .entry)))))) (now (out .exit)) (r .0) ⌝ }
 {
     let mut place = from.0;

@@ -4,7 +4,7 @@ use mathlib.Core.List.{List, [], _∷_}
 use lib.Dec.{ltb}
 use Rattle.units.specs.Choice.{if_then_else_}
 use Rattle.units.specs.Units.{columnsOfFields, endsOfLines}
-use Rattle.lines.specs.Lines.{dataPlan}
+use Rattle.laying.specs.Laying.{dataPlan}
 
 -- how many of the lines end before field j, counted from 0
 unfoldable pub endsBefore : List ℕ → ℕ → ℕ

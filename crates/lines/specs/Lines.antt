@@ -6,11 +6,7 @@ use lib.ListN.{take, drop}
 use Rattle.units.specs.Choice.{if_then_else_}
 use Rattle.words.specs.Words.{word}
 use Rattle.record.specs.Lines.{lineCount}
-use Rattle.laying.specs.Laying.{Line, fieldsOf, plan, laid, cardLines}
-
--- the plan of a Data record, from its words 13 to 16
-abbrev pub dataPlan : List ℕ → List ℕ
-dataPlan r = plan (word r 13) (word r 14) (word r 15) (word r 16)
+use Rattle.laying.specs.Laying.{Line, fieldsOf, dataPlan, laid, cardLines}
 
 -- "Kinds become 2101, 3101, 1101"
 abbrev pub kindShown : ℕ → ℕ

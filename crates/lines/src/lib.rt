@@ -13,8 +13,8 @@ ghost use lib.ListN.{length, drop};
 ghost use Rattle.words.specs.Words.{wordsOf};
 ghost use Rattle.words.specs.Writing.{Room, Put};
 ghost use Rattle.record.specs.Rules.{DataOk, RecordOk};
-ghost use Rattle.laying.specs.Laying.{laid, ended};
-ghost use Rattle.lines.specs.Lines.{dataPlan, kindShown, linesOf};
+ghost use Rattle.laying.specs.Laying.{laid, ended, dataPlan};
+ghost use Rattle.lines.specs.Lines.{kindShown, linesOf};
 ghost use Rattle.lines.specs.Text.{textOf, toLines};
 ghost use Rattle.lines.specs.Cases.{linedOf};
 ghost use Rattle.units.specs.Answers.{answer, passed};
@@ -60,7 +60,7 @@ fn write_record(whole: &[u8], out: &mut [u8], at: Bytes) -> Bytes
     ensures { λ r. ⌜ Put (now (out .entry)) (at .0) (ended (linesOf (wordsOf (now (whole .entry))))) (now (out .exit)) (r .0) ⌝ }
 {
     let count = record::line_count(whole).0;
-    let lines = count as u16;
+    let lines = units::saying_lines(Lines(count));
     let kind = words::word_at(whole, Words(1));
     if kind == record::DATA {
         return write_data(whole, lines, out, at);

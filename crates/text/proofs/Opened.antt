@@ -15,9 +15,8 @@ use Rattle.record.specs.Judging.{underLeast, wordsNeeded}
 use Rattle.record.specs.Lines.{linesNeeded}
 use Rattle.record.specs.Rules.{Least}
 use Rattle.record.proofs.Passed.{at-least}
-use Rattle.laying.specs.Laying.{Line, plan}
+use Rattle.laying.specs.Laying.{Line, plan, dataPlan}
 use Rattle.laying.proofs.Turns.{fieldsIn, part-turn}
-use Rattle.lines.specs.Lines.{dataPlan}
 use Rattle.lines.proofs.Sizes.{fieldsIn-plan}
 use Rattle.columns.specs.Columns.{badColumn, inkFrom, blankAfter, columnOf, numbers, zeros}
 use Rattle.reading.proofs.Later.{card-size}

@@ -9,8 +9,8 @@ use Rattle.words.specs.Words.{word, wordsOf, All}
 use Rattle.record.specs.Lines.{lineCount}
 use Rattle.field.specs.declared.Number.the-variants.{Word}
 use Rattle.field.specs.Reading.{readField, columns}
-use Rattle.laying.specs.Laying.{Line}
-use Rattle.lines.specs.Lines.{dataPlan, shown}
+use Rattle.laying.specs.Laying.{Line, dataPlan}
+use Rattle.lines.specs.Lines.{shown}
 use Rattle.heading.specs.Heading.{Shape, card, fields}
 
 -- "Other bytes are 32 to 126"

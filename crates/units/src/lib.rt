@@ -50,6 +50,22 @@ pub fn lines_said(w: u16) -> Lines
     Lines(w as usize)
 }
 
+// The word that says so many words.
+pub fn saying_words(w: Words) -> u16
+    requires { ⌜ w .0 < 65536 ⌝ }
+    ensures { λ r. ⌜ r ≡ w .0 ⌝ }
+{
+    w.0 as u16
+}
+
+// The word that says so many lines.
+pub fn saying_lines(l: Lines) -> u16
+    requires { ⌜ l .0 < 65536 ⌝ }
+    ensures { λ r. ⌜ r ≡ l .0 ⌝ }
+{
+    l.0 as u16
+}
+
 // The lines of a Catalogue or a Header of so many words: its prologue and each card is one.
 pub fn lines_of_cards(w: Words) -> Lines
     ensures { λ r. ⌜ r .0 ≡ linesOfCards (w .0) ⌝ }

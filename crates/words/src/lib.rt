@@ -90,7 +90,7 @@ pub fn seal(block: &mut [u8], records: Words)
     let n = records.0;
     let last = n + 1;
     let all = n + 2;
-    put_word(block, Words(0), all as u16);
+    put_word(block, Words(0), units::saying_words(Words(all)));
     let checksum = exclusive_or(part(block, Words(0), Words(last)));
     put_word(block, Words(last), checksum);
 }

@@ -18,8 +18,8 @@ add-second c = search needs
 add-third : tie.Need-add-third
 add-third c = search needs
 
-cast-keep-word : tie.Need-cast-keep-word
-cast-keep-word c = search needs
+saying-words-requires : tie.Need-saying-words-requires
+saying-words-requires c κs = search needs
 
 keep-word-requires : tie.Need-keep-word-requires
 keep-word-requires c κs = search needs
@@ -34,10 +34,11 @@ same-length : tie.Need-same-length
 same-length c = search needs
 
 returns : tie.Need-returns
-returns c = let a = c .before .before .before .before .before .before .before .before .before .before .before .before .before .before .before .args in let so = a .so .0 in
-    c .before .before .keep-words .ensures
-    ∙ ap (λ o. sets o ((so + 1 + 1 + 1) * 2) (bytesOf (slice 2 (a .used .0) (now (a .row))))) (c .before .before .before .before .before .before .keep-word2 .ensures ∙ ap (λ o. sets o ((so + 1 + 1) * 2) (bytesOf (a .kind ∷ []))) (c .before .before .before .before .before .before .before .before .before .before .keep-word .ensures))
-    ∙ put-three so (now (a .block)) (a .total .0) (a .kind) (slice 2 (a .used .0) (now (a .row)))
+returns c = let f = c .before .before .before .before .before .before .before .before .before .before in let a = f .before .before .before .before .before .before .args in let so = a .so .0 in let ltot = f .before .before .saying-words in
+    rw (← ltot .ensures)
+    (c .before .before .keep-words .ensures
+    ∙ ap (λ o. sets o ((so + 1 + 1 + 1) * 2) (bytesOf (slice 2 (a .used .0) (now (a .row))))) (c .before .before .before .before .before .before .keep-word2 .ensures ∙ ap (λ o. sets o ((so + 1 + 1) * 2) (bytesOf (a .kind ∷ []))) (f .keep-word .ensures))
+    ∙ put-three so (now (a .block)) (ltot .result) (a .kind) (slice 2 (a .used .0) (now (a .row))))
 
 pub put-head-spec : {M : Type 1} → statement M
 put-head-spec =
@@ -46,7 +47,7 @@ put-head-spec =
     add-first
     add-second
     add-third
-    cast-keep-word
+    saying-words-requires
     keep-word-requires
     keep-word-requires-2
     keep-words-requires

@@ -49,7 +49,7 @@ end-room : (c : tie.After-write-text Inv-loop μ-loop) → c .write-text .result
 end-room c = fits (going c) (10 ∷ []) (others (c .before .before)) refl (start-before-part (c .before .before) .pre .1)
 
 loop-holds : tie.Need-loop-holds Inv-loop μ-loop
-loop-holds c = (c .before .before .pre .0, start)
+loop-holds c = (omega (arith, c .before .before .pre .0), start)
 
 add-next : tie.Need-add-next Inv-loop μ-loop
 add-next c = let r = room c in omega (arith, length-wordsOf (now (c .before .before .before .before .args .whole)))

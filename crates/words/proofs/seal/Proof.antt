@@ -11,7 +11,7 @@ abbrev put-word-before-exclusive-or : tie.After-exclusive-or → tie.After-put-w
 put-word-before-exclusive-or c = c .before .before .before .before .before
 
 abbrev start-before-block2 : tie.After-block2 → tie.Start
-start-before-block2 c = put-word-before-exclusive-or (c .before .before .before) .before .before .before
+start-before-block2 c = put-word-before-exclusive-or (c .before .before .before) .before .before .before .before
 
 add-last : tie.Need-add-last
 add-last c = search needs
@@ -19,27 +19,27 @@ add-last c = search needs
 add-all : tie.Need-add-all
 add-all c = search needs
 
-cast-put-word : tie.Need-cast-put-word
-cast-put-word c = search needs
+saying-words-requires : tie.Need-saying-words-requires
+saying-words-requires c κs = omega arith
 
 put-word-requires : tie.Need-put-word-requires
-put-word-requires c κs = omega (arith, length-wordsOf (now (c .before .before .args .block)), c .before .before .pre .1)
+put-word-requires c κs = omega (arith, length-wordsOf (now (c .before .before .before .args .block)), c .before .before .before .pre .1)
 
 part-requires : tie.Need-part-requires
-part-requires c κs = (omega arith, omega (arith, length-wordsOf (c .before .before .before .put-word .last .0), c .before .before .before .put-word .kept .0, c .before .before .before .before .before .before .pre .1))
+part-requires c κs = (omega arith, omega (arith, length-wordsOf (c .before .before .before .put-word .last .0), c .before .before .before .put-word .kept .0, c .before .before .before .before .before .before .before .pre .1))
 
 exclusive-or-requires : tie.Need-exclusive-or-requires
 exclusive-or-requires c κs = search needs
 
 put-word-requires-2 : tie.Need-put-word-requires-2
-put-word-requires-2 c κs = omega (arith, length-wordsOf (put-word-before-exclusive-or (c .before) .put-word .last .0), put-word-before-exclusive-or (c .before) .put-word .kept .0, put-word-before-exclusive-or (c .before) .before .before .before .pre .1)
+put-word-requires-2 c κs = omega (arith, length-wordsOf (put-word-before-exclusive-or (c .before) .put-word .last .0), put-word-before-exclusive-or (c .before) .put-word .kept .0, put-word-before-exclusive-or (c .before) .before .before .before .before .pre .1)
 
 same-length : tie.Need-same-length
 same-length c = search needs
 
 returns : tie.Need-returns
-returns c = let b = now (start-before-block2 (c .before) .args .block) in
-    sealed b (start-before-block2 (c .before) .args .records .0) (start-before-block2 (c .before) .pre .1) (all-below 256 b (λ i. omega (arith, put-word-before-exclusive-or (c .before .before .before .before) .before .before .slice-known .given i))) (put-word-before-exclusive-or (c .before .before .before .before) .put-word .ensures) (c .before .before .before .before .before .part .ensures) (c .before .before .before .before .exclusive-or .ensures) (c .before .before .put-word2 .ensures)
+returns c = let w = put-word-before-exclusive-or (c .before .before .before .before) in let b = now (start-before-block2 (c .before) .args .block) in
+    sealed b (start-before-block2 (c .before) .args .records .0) (start-before-block2 (c .before) .pre .1) (all-below 256 b (λ i. omega (arith, w .before .before .before .slice-known .given i))) (rw (← w .before .saying-words .ensures) (w .put-word .ensures)) (c .before .before .before .before .before .part .ensures) (c .before .before .before .before .exclusive-or .ensures) (c .before .before .put-word2 .ensures)
 
 pub seal-spec : {M : Type 1} → statement M
 seal-spec =
@@ -47,7 +47,7 @@ seal-spec =
     (tie.spec
     add-last
     add-all
-    cast-put-word
+    saying-words-requires
     put-word-requires
     part-requires
     exclusive-or-requires
