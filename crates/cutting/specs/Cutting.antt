@@ -1,5 +1,5 @@
 -- Document 01, "Read form": the lines of a text.
-use Prim.Native.Nat.{ℕ, _-_, _≤_, _<_}
+use Prim.Native.Nat.{ℕ, _+_, _-_, _≤_, _<_}
 use mathlib.Core.Path.{_≡_}
 use mathlib.Core.List.{List, [], _∷_}
 use mathlib.Core.Bool.{_&&_}
@@ -27,9 +27,10 @@ linesIn (b ∷ t) =
     else if eqb (endLength (b ∷ t)) 1 then [] ∷ linesIn t
     else linesIn t
 
--- the first line from place `at` on is the bytes before `end`, and the other lines begin at `next`
+-- the first line from place `at` on is the bytes before `end`, its end stands there, and the other lines begin at `next`
 pub record LineAt (t : List ℕ) (at end next : ℕ) : Type 0 where
   pub cut : linesIn (drop at t) ≡ take (end - at) (drop at t) ∷ linesIn (drop next t)
+  pub ends : next ≡ end + endLength (drop end t)
   pub within : at ≤ end
   pub ahead : end ≤ next
   pub onward : at < next

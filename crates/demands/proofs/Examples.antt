@@ -10,7 +10,10 @@ use Rattle.field.specs.Writing.{fieldOf}
 use Rattle.units.specs.Decimal.{decimal}
 use Rattle.field.specs.Reading.{readField, columns}
 use Rattle.columns.specs.Columns.{number}
-use Rattle.report.specs.Text.{bytesFrom}
+use Rattle.report.specs.Text.{bytesFrom, behind, lineOf}
+use Rattle.report.specs.Decimal.{decimalOf}
+use Rattle.report.specs.Refusal.{refusalLine}
+use Rattle.listed.specs.Listing.{signedOf, rowOf, rowsOf, listingOf}
 use Rattle.laying.specs.Laying.{fieldsOf, part, times, plan, laid, ended}
 use Rattle.lines.specs.Lines.{linesOf}
 use Rattle.words.specs.Outcomes.{written}
@@ -21,7 +24,7 @@ use Rattle.record.specs.Values.{isValue}
 use Rattle.sheet.specs.Sheets.{sheetOf, sheetWith, entriesOf, entries, opened, broken, zeros}
 use Rattle.amending.specs.Places.{noRecord, withValue, stands}
 use Rattle.amending.specs.Amending.{amendable, undoable, onBoth}
-use Rattle.demands.specs.Examples.{blockK, blockLeast, paperRows, PaperRows, prefixRows, PrefixRows}
+use Rattle.demands.specs.Examples.{blockK, blockLeast, paperRows, PaperRows, prefixRows, PrefixRows, listingRows, ListingRows, readRows, ReadRows, writtenRows, WrittenRows}
 
 pub paper-rows : PaperRows
 unfolding paperRows blockK blockLeast judged wrongSize walk judgeRecord judgeCards judgeData judgeCounts wrongTotal underLeast firstNotZero firstNotCard passing wordWithin wordsOf bytesOf xorAll ones onesIn recordsOf cut toLines written textOf ended linesOf laid plan part times fieldsOf fieldOf decimal lineCount framed joined sheetOf sheetWith entriesOf entries opened broken zeros isValue noRecord withValue stands amendable undoable onBoth number readField columns bytesFrom
@@ -30,3 +33,15 @@ paper-rows = refl
 pub prefix-rows : PrefixRows
 unfolding prefixRows table beside
 prefix-rows = refl
+
+pub listing-rows : ListingRows
+unfolding listingRows blockK wordsOf bytesOf xorAll underLeast judgeCounts judgeData judgeRecord wrongSize walk judged cut recordsOf lineCount beside table bytesFrom behind lineOf decimal decimalOf signedOf rowOf rowsOf refusalLine listingOf
+listing-rows = refl
+
+pub read-rows : ReadRows
+unfolding readRows number readField columns bytesFrom
+read-rows = refl
+
+pub written-rows : WrittenRows
+unfolding writtenRows fieldOf decimal bytesFrom
+written-rows = refl

@@ -1,4 +1,4 @@
--- Document 01, "Examples": "The P rows are proved as a single table". And the prefixes that it names.
+-- Document 01, "Examples": "The P rows are proved as a single table". Behind it other sentences that name one input.
 use Prim.Native.Nat.{ℕ, _-_}
 use Prim.Native.String.{String}
 use mathlib.Core.Path.{_≡_}
@@ -12,12 +12,14 @@ use Rattle.block.specs.Judging.{judged}
 use Rattle.block.specs.Records.{recordsOf}
 use Rattle.lines.specs.Lines.{linesOf}
 use Rattle.lines.specs.Text.{toLines}
+use Rattle.field.specs.Writing.{fieldOf}
 use Rattle.columns.specs.Columns.{number}
 use Rattle.report.specs.Text.{text}
 use Rattle.prefix.specs.Table.{letters, prefixOf}
 use Rattle.sheet.specs.Sheets.{version1, sheetOf}
 use Rattle.amending.specs.Places.{recordIn}
 use Rattle.cedar.specs.Calls.{judgeAnswer}
+use Rattle.listed.specs.Listing.{listingOf}
 use Rattle.demands.specs.Demand3.{Call, amends, undoes, doneAll, leftBy, fresh}
 
 -- "Block K", with NROW, word 22 of its record and the checksum left open; -32767 is the word 32769
@@ -128,7 +130,7 @@ paperRows =
 abbrev pub PaperRows : Type 0
 PaperRows = map (λ r. (r .0, computed (r .1))) paperRows ≡ paperRows
 
--- ---- prefixes
+-- ---- other things that the paper says of one input
 
 -- "MLH" of the listing's example; "5140 is AQF"; "7240 has no prefix. It and every unlisted code answer "---""
 unfoldable pub prefixRows : List (ℕ × String)
@@ -137,3 +139,28 @@ prefixRows = (30, "MLH") ∷ (5140, "AQF") ∷ (7240, "---") ∷ (0, "---") ∷ 
 -- the rows are what the table answers
 abbrev pub PrefixRows : Type 0
 PrefixRows = map (λ e. prefixOf (e .0)) prefixRows ≡ map (λ e. letters (e .1)) prefixRows
+
+-- "For K the whole output is", and what is printed for K of example 8
+unfoldable pub listingRows : List (List ℕ × String)
+unfolding blockK
+listingRows = (blockK 2 900 33020, "1 2 1002 24 6 30 MLH") ∷ (blockK 1 900 33023, "refused 9 1 1 0") ∷ []
+
+-- the rows are what is printed, one line each
+abbrev pub ListingRows : Type 0
+ListingRows = map (λ e. listingOf (bytesOf (e .0))) listingRows ≡ map (λ e. text (e .1) ++ (10 ∷ [])) listingRows
+
+-- ""    -0" is 0"; "A blank field is refused"
+unfoldable pub readRows : List (String × Verdict ℕ)
+readRows = ("    -0", passed 0) ∷ ("      ", refused (answer 22 4 7 0)) ∷ []
+
+-- the rows are what is read
+abbrev pub ReadRows : Type 0
+ReadRows = map (λ e. fieldFound (e .0)) readRows ≡ map (λ e. e .1) readRows
+
+-- "six columns, right-justified, blank on the left, a minus before the first digit, no leading zeros"; 65535 is the word of -1
+unfoldable pub writtenRows : List (ℕ × String)
+writtenRows = (0, "     0") ∷ (7, "     7") ∷ (900, "   900") ∷ (32767, " 32767") ∷ (32768, "-32768") ∷ (65535, "    -1") ∷ []
+
+-- the rows are what is written
+abbrev pub WrittenRows : Type 0
+WrittenRows = map (λ e. fieldOf (e .0)) writtenRows ≡ map (λ e. text (e .1)) writtenRows

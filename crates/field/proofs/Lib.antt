@@ -4,4 +4,3 @@ pub mod Putting
 pub mod Written
 pub mod Columns
 pub mod Back
-pub mod Examples

@@ -48,6 +48,7 @@ returns c = let l = c .before .before .before .loop in let s = plain-bytes-befor
     record {
       line = record {
         cut = cut-behind t (s .args .at .0) (plain-bytes-before-then1 c .plain-bytes .result) (l .i) (l .i + c .before .end-length .result) (plain-bytes-before-then1 c .plain-bytes .ensures) (l .inv .0) (s .pre) (omega (arith, q .0)) (omega (arith, q .1));
+        ends = ap (λ k. l .i + k) (c .before .end-length .ensures .0);
         within = omega arith;
         ahead = omega arith;
         onward = omega arith;
@@ -69,12 +70,13 @@ loop-again c = let l = c .before .before .before .loop in let t = now (c .before
     omega (arith, q .0, q .1)
 
 returns-2 : tie.Need-returns-2 Inv-loop μ-loop
-unfolding lineLength lineStep
+unfolding lineLength lineStep endLength
 returns-2 c = let l = c .before .loop in let s = c .before .before .before .before .before in let t = now (s .args .text) in
     let d : drop (l .i) t ≡ [] = drop-of-length-le t (c .loop-test .left) in
     record {
       line = record {
         cut = cut-behind t (s .args .at .0) (c .before .before .before .plain-bytes .result) (l .i) (l .i) (c .before .before .before .plain-bytes .ensures) (l .inv .0) (s .pre) (omega (arith, ap lineLength d)) (omega (arith, ap lineStep d));
+        ends = omega (arith, ap endLength d);
         within = omega arith;
         ahead = omega arith;
         onward = omega arith;
