@@ -3,8 +3,8 @@
  *
  * The library judges binary blocks of the CEDAR database format, writes their lines, reads lines back to a block,
  * amends a block's values and undoes that, and finds instruments' prefixes.
- * It is proved, for every input, to answer as written here.
- * Link x86-64 programs with libcedar.a; it needs no other library.
+ * The calls are proved, for every input, against definitions; this page says in words what those say.
+ * Link x86-64 programs with libcedar.a; of the C library it needs memset alone.
  *
  * Every call
  *   keeps no state and needs no set-up;
@@ -58,6 +58,7 @@
  *   It has the mark "AMD", the version 1, the count of the amendments that stand, 0 to 64, and one zero byte.
  *   Then 64 entries of four numbers each: record, word in the record, old value, new value; oldest first.
  *   Entries past the count are zero.
+ *   It belongs to one block and is kept with it: the calls cannot tell whether a sheet is that block's.
  *
  * An answer
  *   is four numbers n, a, b, c in one: 2^56 n + 2^32 a + 2^16 b + c.
@@ -87,7 +88,7 @@ static inline uint32_t cedar_c(uint64_t answer) { return (uint32_t)answer & 0xff
  *   0  the block is accepted                               records
  *   1  its length is odd, under 36 or over 16,000 bytes
  *   2  word 1 is not the count of words
- *   3  the checksum is wrong                                                        wrong bits
+ *   3  the checksum is wrong                                                        how many bits
  *   4  under 16 words are left for a record                record   1
  *   5  the kind is unknown                                 record   2
  *   6  LTOT is under 40 or no multiple of 40               record   1
@@ -114,7 +115,8 @@ enum { CEDAR_TEXT_MOST = 55971 };
  *   1 to 9  cedar_judge refuses the block                  as there        as there        as there
  *   29      the output is shorter than needed              bytes needed
  *
- * Tried in this order: 1 to 9, then 29; so a call with text_length 0 asks how many bytes an accepted block needs.
+ * Tried in this order: 1 to 9, then 29.
+ * So a call with text_length 0, and any text but NULL, asks how many bytes an accepted block needs.
  * Bytes of the text past those written stay as they are: no NUL is added.
  */
 uint64_t cedar_to_lines(const uint8_t *block, size_t block_length, uint8_t *text, size_t text_length);
@@ -146,7 +148,7 @@ enum { CEDAR_READ_MOST = 65536, CEDAR_BLOCK_MOST = 16000 };
  *   30  the text is over 65,536 bytes
  *
  * Tried in this order: 30, then line by line, and at the end 21, then 29; the first that holds is the answer.
- * So a call with block_length 0 asks how many bytes an accepted text needs.
+ * So a call with block_length 0, and any block but NULL, asks how many bytes an accepted text needs.
  * Blank lines outside of records: 20.
  * A record's first line: 20, fields 1 to 12 by 22, 23, then by kind
  *   Catalogue: fields 13 to 20, each by 22 and 26; then 24, 28.
@@ -165,7 +167,7 @@ enum { CEDAR_SHEET_BYTES = 520, CEDAR_AMENDMENTS_MOST = 64 };
  * Writes an empty sheet to the `length` bytes at `sheet`, whatever they hold.
  *
  *   n   given when                                         a               b               c
- *   0   the sheet is written
+ *   0   the sheet is written                               standing: 0
  *   40  the sheet is not 520 bytes
  */
 uint64_t cedar_sheet_start(uint8_t *sheet, size_t length);
