@@ -86,8 +86,9 @@ static inline uint32_t cedar_c(uint64_t answer) { return (uint32_t)answer & 0xff
  *
  *   n  given when                                          a        b               c
  *   0  the block is accepted                               records
- *   1  its length is odd, under 36 or over 16,000 bytes
- *   2  word 1 is not the count of words
+ *   1  the length of the block is odd, under 36 or over
+ *      16,000 bytes
+ *   2  word 1 is not the count of the block's words
  *   3  the checksum is wrong                                                        how many bits
  *   4  under 16 words are left for a record                record   1
  *   5  the kind is unknown                                 record   2
@@ -95,7 +96,8 @@ static inline uint32_t cedar_c(uint64_t answer) { return (uint32_t)answer & 0xff
  *      (Data: under 16), or runs into the checksum
  *   7  a word that must be zero is not                     record   its word
  *   8  a card has a byte that is not 32 to 126             record   the byte's word
- *   9  Data: a count is under its least value, or          record   13, 14, 15, 16
+ *   9  Data: a count is under its least value (LPROL 16;   record   13, 14, 15, 16
+ *      JPAR, MPAR, NROW 0), or
  *      LTOT is not the sum that the counts give            record   1
  *
  * Tried in this order: 1, 2, 3, then 4 to 9 for each record in turn; the first that holds is the answer.
@@ -135,15 +137,17 @@ enum { CEDAR_READ_MOST = 65536, CEDAR_BLOCK_MOST = 16000 };
  *   21  the text has no record
  *   22  a field is no number from -32,768 to 32,767        line            its first column
  *   23  the kind is unknown                                line            7
- *   24  Catalogue, Header: field 1 is not 1 to 199;        line            1
- *       Data: it is not the lines that its counts need     line            1
- *   25  the text ends inside a record                      last line + 1   1
+ *   24  field 1 is not the record's line count: 1 to 199   line            1
+ *       for Catalogue and Header, for Data the lines that
+ *       its four counts need
+ *   25  the text ends inside a record, where this line     last line + 1   1
+ *       must stand
  *   26  a column that must be blank is not, or a field     line            that column
  *       that must be 0 or blank is another number          line            its first column
- *   27  Data: a count is under its least value             line            its first column
- *   28  the records up to this one have over 7,998 words,  line            1
- *       as field 1 or the counts say, even if its lines
- *       are not there
+ *   27  Data: a count is under its least value (LPROL 16;  line            its first column
+ *       JPAR, MPAR, NROW 0)
+ *   28  with this record the text has over 7,998 record    line            1
+ *       words
  *   29  the output is shorter than needed                  bytes needed
  *   30  the text is over 65,536 bytes
  *
@@ -155,6 +159,7 @@ enum { CEDAR_READ_MOST = 65536, CEDAR_BLOCK_MOST = 16000 };
  *   Header: fields 13 to 15 by 22; fields 16 to 20, each by 22 and 26; then 24, 28.
  *   Data: fields 13 to 16 by 22; 27; fields 17 on, as far as LPROL goes, by 22; columns after them by 26; then 28, 24.
  * Its later lines: 25, 20, fields by 22, columns after them or after a card by 26.
+ * For 28 a record has the words that field 1, or for Data the counts, ask for, even if its lines are not there.
  * Where several places of a line are wrong in the same way, b is the first of them.
  * Bytes of the block past those written stay as they are.
  */
