@@ -1,6 +1,6 @@
 /*
  * Amends a value of the block in the file named on the command line, undoes that, and says what the library answered.
- * On x86-64: cc -Iinclude example/amend.c target/staticlib/libcedar.a -o amend && ./amend example/k.block
+ * On x86-64: cc -Iinclude example/amend.c target/staticlib/libcedar.a -o target/amend && target/amend example/k.block
  */
 #include "example.h"
 
@@ -20,13 +20,11 @@ static int tell(uint64_t answer, const uint8_t *block, size_t length)
 int main(int argc, char **argv)
 {
     static uint8_t block[BLOCK_ROOM], sheet[CEDAR_SHEET_BYTES];
-    long length = argc == 2 ? read_file(argv[1], block, sizeof block) : -1;
+    long length = read_argument(argc, argv, block, sizeof block);
     uint64_t amended;
 
-    if (length < 0) {
-        fprintf(stderr, "usage: amend FILE, a file that can be read\n");
+    if (length < 0)
         return 2;
-    }
     cedar_sheet_start(sheet, sizeof sheet);
     amended = cedar_amend(block, (size_t)length, sheet, sizeof sheet, RECORD, WORD, OLD_VALUE, NEW_VALUE);
     if (tell(amended, block, (size_t)length) != 0)

@@ -1,6 +1,6 @@
 /*
  * Judges the block in the file named on the command line, and says what the library answered.
- * On x86-64: cc -Iinclude example/judge.c target/staticlib/libcedar.a -o judge && ./judge example/k.block
+ * On x86-64: cc -Iinclude example/judge.c target/staticlib/libcedar.a -o target/judge && target/judge example/k.block
  */
 #include "example.h"
 
@@ -18,13 +18,11 @@ int main(int argc, char **argv)
 {
     static uint8_t block[BLOCK_ROOM];
     const uint8_t *instrument = block + FIRST_INSTRUMENT;
-    long length = argc == 2 ? read_file(argv[1], block, sizeof block) : -1;
+    long length = read_argument(argc, argv, block, sizeof block);
     uint64_t answer;
 
-    if (length < 0) {
-        fprintf(stderr, "usage: judge FILE, a file that can be read\n");
+    if (length < 0)
         return 2;
-    }
     answer = cedar_judge(block, (size_t)length);
     print_answer(stdout, answer);
     if (cedar_n(answer) != 0)
