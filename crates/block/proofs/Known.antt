@@ -12,23 +12,20 @@ use lib.ListN.{length, take}
 use lib.Seq.{length-slice}
 use Rattle.units.specs.Choice.{if_then_else_}
 use Rattle.units.specs.declared.Answer.{Answer}
-use Rattle.units.specs.Answers.{answer, Verdict, passed, refused, answered, onward, Packs}
+use Rattle.units.specs.Answers.{answer, Verdict, passed, refused, onward, Packs}
 use Rattle.units.proofs.Choosing.{by-test, both-ways}
 use Rattle.words.specs.Words.{wordsOf, word, Below}
 use Rattle.words.proofs.Laws.{words-below, getD-below}
 use Rattle.words.proofs.Lists.{all-take, all-drop}
 use Rattle.words.proofs.Xor.{fold-below}
 use Rattle.record.specs.Judging.{wrongTotal, underLeast, firstNotZero, firstNotCard, judgeCards, judgeCounts, judgeData, judgeRecord, wordsNeeded}
+use Rattle.block.specs.Cases.{BlockRow}
 use Rattle.block.specs.Judging.{wrongSize, inner, computed, walk, judged}
 use Rattle.block.proofs.Size.{size-right}
 
--- the rows of a block: 1 to 9
-abbrev pub Row : ℕ → Type 0
-Row n = (1 ≤ n) × (n ≤ 9)
-
 -- a refusal of the judge: its number is one of the paper's, and the others have room
 pub record Told (r : Answer) : Type 0 where
-  pub listed : Row (r .n)
+  pub listed : BlockRow (r .n)
   pub packs : Packs r
 
 abbrev pub Known : Verdict ℕ → Type 0
@@ -36,9 +33,9 @@ Known (passed a) = a < 2 ^ 16
 Known (refused r) = Told r
 
 -- refusal n at record k, with b and c
-told : (n k b c : ℕ) → Row n → k < 2 ^ 16 → b < 2 ^ 16 → c < 2 ^ 16 → Told (answer n k b c)
+told : (n k b c : ℕ) → BlockRow n → k < 2 ^ 16 → b < 2 ^ 16 → c < 2 ^ 16 → Told (answer n k b c)
 told n k b c hn hk hb hc =
-    record { listed = hn; packs = record { n-fits = omega arith; a-fits = omega arith; b-fits = hb; c-fits = hc } }
+    record { listed = hn; packs = omega arith }
 
 -- one row of the order: its numbers need only be known where its test holds, and the rest where it does not
 row : (t : Bool) (r : Answer) (v : Verdict ℕ) → (t ≡ true → Told r) → (t ≡ false → Known v) → Known (if t then refused r else v)
@@ -103,7 +100,3 @@ judged-known b bytes =
     (λ _. told 3 0 0 (ones (bitXor stored (computed ws))) (omega arith) (omega arith) (omega arith)
     (omega (arith, ones-le 16 (bitXor stored (computed ws)) (xor-lt 16 stored (computed ws) (getD-below 65536 ws (length ws - 1) (omega arith) below) (fold-below (take (length ws - 1) ws) front)))))
     (λ _. walk-known 0 1 (inner ws) (omega (arith, length-slice 1 (length ws - 1) ws (omega arith))) (all-drop (λ w. w < 65536) 1 (take (length ws - 1) ws) front))))
-
-pub answer-packs : (v : Verdict ℕ) → Known v → Packs (answered v)
-answer-packs (passed a) h = record { n-fits = omega arith; a-fits = omega arith; b-fits = omega arith; c-fits = omega arith }
-answer-packs (refused r) h = h .packs

@@ -32,7 +32,6 @@ pub record LineAt (t : List ℕ) (at end next : ℕ) : Type 0 where
   pub cut : linesIn (drop at t) ≡ take (end - at) (drop at t) ∷ linesIn (drop next t)
   pub ends : next ≡ end + endLength (drop end t)
   pub within : at ≤ end
-  pub ahead : end ≤ next
   pub onward : at < next
   pub inside : next ≤ length t
 

@@ -20,7 +20,7 @@ use Rattle.block.specs.declared.Judged.{Judged}
 use Rattle.block.specs.declared.Judged.the-variants.{Records, Refused}
 use Rattle.block.specs.declared.Refusal.{Refusal}
 use Rattle.block.specs.declared.Refusal.the-variants.{Size, WordCount, Checksum, Record}
-use Rattle.block.specs.Cases.{refusalOf, judgedOf}
+use Rattle.block.specs.Cases.{BlockRow, refusalOf, judgedOf}
 use Rattle.lines.specs.declared.Lined.{Lined}
 use Rattle.lines.specs.declared.Lined.the-variants.{Text}
 use Rattle.lines.specs.declared.Lined.the-variants as lines
@@ -72,16 +72,16 @@ refusal-back (Record (Card k w)) = refl
 refusal-back (Record (Counts k w)) = refl
 
 -- its number is one of the block's
-refusal-low : (r : Refusal) → (1 ≤ refusalOf r .n) × (refusalOf r .n ≤ 9)
-refusal-low Size = (omega arith, omega arith)
-refusal-low WordCount = (omega arith, omega arith)
-refusal-low (Checksum bits) = (omega arith, omega arith)
-refusal-low (Record (Short k)) = (omega arith, omega arith)
-refusal-low (Record (Kind k)) = (omega arith, omega arith)
-refusal-low (Record (Total k)) = (omega arith, omega arith)
-refusal-low (Record (NotZero k w)) = (omega arith, omega arith)
-refusal-low (Record (Card k w)) = (omega arith, omega arith)
-refusal-low (Record (Counts k w)) = (omega arith, omega arith)
+refusal-low : (r : Refusal) → BlockRow (refusalOf r .n)
+refusal-low Size = omega arith
+refusal-low WordCount = omega arith
+refusal-low (Checksum bits) = omega arith
+refusal-low (Record (Short k)) = omega arith
+refusal-low (Record (Kind k)) = omega arith
+refusal-low (Record (Total k)) = omega arith
+refusal-low (Record (NotZero k w)) = omega arith
+refusal-low (Record (Card k w)) = omega arith
+refusal-low (Record (Counts k w)) = omega arith
 
 -- so it is no other number
 other : (r : Refusal) (m : ℕ) → (m ≡ 0) ⊎ (10 ≤ m) → eqb (refusalOf r .n) m ≡ false

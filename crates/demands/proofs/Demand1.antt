@@ -14,18 +14,20 @@ use Rattle.units.proofs.Verdicts.{and-on, never-passed}
 use Rattle.words.specs.Words.{bytesOf, framed, All, Below}
 use Rattle.words.specs.Outcomes.{Written, written, leaves}
 use Rattle.words.proofs.Writing.{written-either}
+use Rattle.block.specs.Cases.{BlockRow}
 use Rattle.block.specs.Judging.{judged}
 use Rattle.block.specs.Records.{recordsOf}
 use Rattle.lines.specs.Text.{textOf, toLines}
 use Rattle.lines.proofs.Outcome.{outcome-told}
-use Rattle.block.proofs.Known.{Known, judged-known, answer-packs}
+use Rattle.block.proofs.Known.{Known, judged-known}
 use Rattle.prefix.specs.declared.Letters.{Letters}
 use Rattle.prefix.specs.LookUp.{beside}
 use Rattle.prefix.specs.Table.{table, dashes, prefixOf}
 use Rattle.cedar.specs.Calls.{prefixAnswer}
+use Rattle.text.specs.Cases.{TextRow}
 use Rattle.text.specs.Block.{readText, wordsIn, toBlock}
 use Rattle.text.proofs.Known.{Room, text-known, answer-told}
-use Rattle.demands.specs.Demand1.{Judges, BlockRow, JudgeAnswers, PrefixAnswers, LinesAnswers, TextRow, ContentAnswers, BlockAnswers, Writes, SheetRow, OpenAnswers, StartAnswers, BothAnswer, AmendRow, AmendAnswers, UndoRow, UndoAnswers}
+use Rattle.demands.specs.Demand1.{Judges, JudgeAnswers, PrefixAnswers, LinesAnswers, ContentAnswers, BlockAnswers, Writes, SheetRow, OpenAnswers, StartAnswers, BothAnswer, AmendRow, AmendAnswers, UndoRow, UndoAnswers}
 use Rattle.units.specs.declared.Answer.{Answer}
 use Rattle.units.proofs.Choosing.{by-test, both-ways}
 use Rattle.words.proofs.Laws.{getD-below}
@@ -44,7 +46,7 @@ pub judge-answers : JudgeAnswers
 judge-answers block bytes = by (judged block) (judged-known block bytes)
   where
     by : (v : Verdict ℕ) → Known v → Judges BlockRow v
-    by (passed k) h = taken-apart (answer 0 k 0 0) (answer-packs (passed k) h)
+    by (passed k) h = taken-apart (answer 0 k 0 0) (omega arith)
     by (refused r) h = (h .listed, taken-apart r (h .packs))
 
 -- three letters are bytes, of each row and so of each code
@@ -71,12 +73,7 @@ unfolding bytes
 letters-pack l e =
     let a = and-on (ltb (l .0) 256) _ e in
     let b = and-on (ltb (l .1) 256) _ (a .1) in
-    record {
-      n-fits = omega arith;
-      a-fits = omega (arith, ltb-true (l .0) 256 (a .0));
-      b-fits = omega (arith, ltb-true (l .1) 256 (b .0));
-      c-fits = omega (arith, ltb-true (l .2) 256 (b .1));
-    }
+    omega (arith, ltb-true (l .0) 256 (a .0), ltb-true (l .1) 256 (b .0), ltb-true (l .2) 256 (b .1))
 
 table-bytes : each table ≡ true
 unfolding each bytes table
@@ -111,7 +108,7 @@ unfolding wordsIn
 content-answers text = by (readText text) (text-known text)
   where
     by : (v : Verdict (List ℕ)) → told.Known (Room 0) v → Judges TextRow (onward v (λ ws. passed (length ws)))
-    by (passed ws) h = taken-apart (answer 0 (length ws) 0 0) (record { n-fits = omega arith; a-fits = omega (arith, h .most); b-fits = omega arith; c-fits = omega arith })
+    by (passed ws) h = taken-apart (answer 0 (length ws) 0 0) (omega (arith, h .most))
     by (refused r) h = (h .listed, taken-apart r (h .packs))
 
 pub block-answers : BlockAnswers
@@ -122,17 +119,13 @@ block-answers text block =
 
 -- ---- the calls on a sheet, and on a block and its sheet: rows 40 to 46
 
--- a row with its a
-rowPacks : (n a : ℕ) → n ≤ 46 → a < 2 ^ 16 → Packs (answer n a 0 0)
-rowPacks n a h k = record { n-fits = omega arith; a-fits = omega arith; b-fits = omega arith; c-fits = omega arith }
-
 pub start-answers : StartAnswers
 unfolding started
 start-answers sheet =
     both-ways (Writes SheetRow sheet)
     (eqb (length sheet) (sheetBytes version1)) (leaves (answer 0 0 0 0) (sheetOf version1 [])) (leaves (answer 40 0 0 0) sheet)
-    ((inl refl, taken-apart (answer 0 0 0 0) (rowPacks 0 0 (omega arith) (omega arith))), λ h. absurd (h refl))
-    ((inr refl, taken-apart (answer 40 0 0 0) (rowPacks 40 0 (omega arith) (omega arith))), λ h. refl)
+    ((inl refl, taken-apart (answer 0 0 0 0) (omega arith)), λ h. absurd (h refl))
+    ((inr refl, taken-apart (answer 40 0 0 0) (omega arith)), λ h. refl)
 
 -- a sheet is refused with 40 only
 opened-refused : (sheet : List ℕ) (r : Answer) → opened version1 sheet ≡ refused r → r ≡ answer 40 0 0 0
@@ -145,8 +138,8 @@ pub open-answers : OpenAnswers
 open-answers sheet bytes = by (opened version1 sheet) refl
   where
     by : (v : Verdict ℕ) → opened version1 sheet ≡ v → Judges SheetRow v
-    by (passed n) e = let s = sheet-opened version1 sheet n bytes e in taken-apart (answer 0 n 0 0) (rowPacks 0 n (omega arith) (omega (arith, s .0 .most, s .1)))
-    by (refused r) e = rw (opened-refused sheet r e) (refl, taken-apart (answer 40 0 0 0) (rowPacks 40 0 (omega arith) (omega arith)))
+    by (passed n) e = let s = sheet-opened version1 sheet n bytes e in taken-apart (answer 0 n 0 0) (omega (arith, s .0 .most, s .1))
+    by (refused r) e = rw (opened-refused sheet r e) (refl, taken-apart (answer 40 0 0 0) (omega arith))
 
 -- a refusal that the paper lists, or no more entries than a sheet has room for
 module _ (Own : ℕ → Type 0) where
@@ -159,11 +152,11 @@ module _ (Own : ℕ → Type 0) where
   Fine (refused r) = Listed r
 
   row : (n a : ℕ) → Own n → n ≤ 46 → a < 2 ^ 16 → Fine (refused (answer n a 0 0))
-  row n a h k l = record { listed = inr h; packs = rowPacks n a k l }
+  row n a h k l = record { listed = inr h; packs = omega arith }
 
   both-answer : (block sheet : List ℕ) (v : Verdict Both) → Fine v → BothAnswer Own block sheet (leaving version1 block sheet v)
   both-answer block sheet (refused r) h = ((inr (h .listed), taken-apart r (h .packs)), λ _. (refl, refl))
-  both-answer block sheet (passed t) h = ((inl refl, taken-apart _ (rowPacks 0 (length (t .entries)) (omega arith) (omega arith))), λ n. absurd (n refl))
+  both-answer block sheet (passed t) h = ((inl refl, taken-apart _ (omega arith)), λ n. absurd (n refl))
 
 -- ---- each call
 

@@ -10,8 +10,11 @@ use Rattle.units.specs.declared.Answer.{Answer}
 use Rattle.units.specs.Answers.{answer, Verdict, passed, refused, packedOf, takenApart}
 use Rattle.words.specs.Words.{Below}
 use Rattle.words.specs.Outcomes.{Written}
+use Rattle.block.specs.Cases.{BlockRow}
 use Rattle.block.specs.Judging.{judged}
+use Rattle.lines.specs.Cases.{LinesRow}
 use Rattle.lines.specs.Text.{toLines}
+use Rattle.text.specs.Cases.{TextRow, ToBlockRow}
 use Rattle.text.specs.Block.{wordsIn, toBlock}
 use Rattle.sheet.specs.Sheets.{Entry, version1, opened, started}
 use Rattle.amending.specs.Amending.{Outcome, amend, undo}
@@ -39,30 +42,18 @@ Writes Row before w = Numbered Row (w .answer) × ((w .answer .n ≡ 0 → ⊥) 
 -- ---- the calls on one buffer
 
 -- "Order for a block: 1, 2, 3, then each record: 4, 5, 6, 7, 8, 9"
-abbrev pub BlockRow : ℕ → Type 0
-BlockRow n = (1 ≤ n) × (n ≤ 9)
-
 abbrev pub JudgeAnswers : Type 0
 JudgeAnswers = (block : List ℕ) → Below 256 block → Judges BlockRow (judged block)
 
 -- "To lines: the block, then 29"
-abbrev pub LinesRow : ℕ → Type 0
-LinesRow n = BlockRow n ⊎ (n ≡ 29)
-
 abbrev pub LinesAnswers : Type 0
 LinesAnswers = (block text : List ℕ) → Below 256 block → Writes LinesRow text (toLines block text)
 
--- "Order for text: 30, then line by line ... At the end 21": rows 20 to 28, and 30
-abbrev pub TextRow : ℕ → Type 0
-TextRow n = (20 ≤ n) × (n ≤ 30) × (n ≡ 29 → ⊥)
-
+-- "Order for text: 30, then line by line ... At the end 21"
 abbrev pub ContentAnswers : Type 0
 ContentAnswers = (text : List ℕ) → Judges TextRow (wordsIn text)
 
 -- "then 29"
-abbrev pub ToBlockRow : ℕ → Type 0
-ToBlockRow n = (20 ≤ n) × (n ≤ 30)
-
 abbrev pub BlockAnswers : Type 0
 BlockAnswers = (text block : List ℕ) → Writes ToBlockRow block (toBlock text block)
 

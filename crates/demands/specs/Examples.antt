@@ -149,7 +149,7 @@ listingRows = (blockK 2 900 33020, "1 2 1002 24 6 30 MLH") ∷ (blockK 1 900 330
 abbrev pub ListingRows : Type 0
 ListingRows = map (λ e. listingOf (bytesOf (e .0))) listingRows ≡ map (λ e. text (e .1) ++ (10 ∷ [])) listingRows
 
--- ""    -0" is 0"; "A blank field is refused"
+-- the field "    -0" is 0; "A blank field is refused"
 unfoldable pub readRows : List (String × Verdict ℕ)
 readRows = ("    -0", passed 0) ∷ ("      ", refused (answer 22 4 7 0)) ∷ []
 

@@ -34,10 +34,7 @@ fn put_blanks(out: &mut [u8], at: usize)
     requires { ⌜ at + 6 ≤ length (now out) ⌝ }
     ensures { λ _. ⌜ now (out .exit) ≡ sets (now (out .entry)) at (blanks 6) ⌝ }
 {
-    out[at] = 32;
-    out[at + 1] = 32;
-    out[at + 2] = 32;
-    out[at + 3] = 32;
+    put_bytes(out, at, 0x2020_2020);
     out[at + 4] = 32;
     out[at + 5] = 32;
 }

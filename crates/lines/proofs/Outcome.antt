@@ -9,10 +9,11 @@ use Rattle.units.specs.Answers.{Verdict, passed, refused, Packs}
 use Rattle.words.specs.Outcomes.{written, leaves}
 use Rattle.block.specs.Judging.{judged}
 use Rattle.block.specs.Records.{recordsOf}
-use Rattle.block.proofs.Known.{Row, Known, judged-known}
+use Rattle.block.proofs.Known.{Known, judged-known}
 use Rattle.words.specs.Words.{Below}
 use Rattle.words.proofs.Writing.{written-told}
 use Rattle.lines.proofs.Sizes.{text-bound}
+use Rattle.lines.specs.Cases.{LinesRow}
 use Rattle.lines.specs.Text.{textOf, toLines}
 
 pub when-refused : (b out : List ℕ) (r : Answer) → judged b ≡ refused r → toLines b out ≡ leaves r out
@@ -23,19 +24,15 @@ pub when-accepted : (b out : List ℕ) (k : ℕ) → judged b ≡ passed k → t
 unfolding toLines
 when-accepted b out k e = rw e
 
--- success, a row of the block, or 29
-abbrev pub Listed : ℕ → Type 0
-Listed n = (n ≡ 0) ⊎ (Row n ⊎ (n ≡ 29))
-
 -- the answer's numbers: with 0 and 29 at most 55,971 bytes
-pub outcome-told : (b out : List ℕ) → Below 256 b → Listed (toLines b out .answer .n) × Packs (toLines b out .answer)
+pub outcome-told : (b out : List ℕ) → Below 256 b → ((toLines b out .answer .n ≡ 0) ⊎ LinesRow (toLines b out .answer .n)) × Packs (toLines b out .answer)
 outcome-told b out h = by (judged b) refl (judged-known b h)
   where
-    listed : {n : ℕ} → (n ≡ 0) ⊎ (n ≡ 29) → Listed n
+    listed : {n : ℕ} → (n ≡ 0) ⊎ (n ≡ 29) → (n ≡ 0) ⊎ LinesRow n
     listed (inl e) = inl e
     listed (inr e) = inr (inr e)
 
-    by : (v : Verdict ℕ) → judged b ≡ v → Known v → Listed (toLines b out .answer .n) × Packs (toLines b out .answer)
+    by : (v : Verdict ℕ) → judged b ≡ v → Known v → ((toLines b out .answer .n ≡ 0) ⊎ LinesRow (toLines b out .answer .n)) × Packs (toLines b out .answer)
     by (refused r) e t = rw (when-refused b out r e) (inr (inl (t .listed)), t .packs)
     by (passed k) e t =
         let w = written-told out (textOf (recordsOf b)) (omega (arith, text-bound b h (record { count = k; is = e }))) in

@@ -164,7 +164,6 @@ kept-opened y s h =
 
 -- ---- from the entries to the sheet
 
--- a sheet that was just started has no entries
 -- a sheet has the size of its layout
 pub length-sheet : (y : Layout) (s : List ℕ) (es : List Entry) → IsSheet y s es → length s ≡ sheetBytes y
 unfolding sheetOf

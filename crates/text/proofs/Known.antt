@@ -17,6 +17,7 @@ use Rattle.laying.specs.Laying.{Line}
 use Rattle.cutting.specs.Cutting.{onto, linesIn, endLength}
 use Rattle.heading.specs.Heading.{Shape, Read}
 use Rattle.reading.specs.Reading.{lineStep, atEnd, readLines}
+use Rattle.text.specs.Cases.{ToBlockRow}
 use Rattle.text.specs.Block.{readText, toBlock}
 use Rattle.text.proofs.Told.{told, Known, then-known}
 use Rattle.units.proofs.Choosing.{by-test, both-ways}
@@ -84,14 +85,14 @@ words-room t ws e = let r : Room 0 ws = rw e at (text-known t) in omega arith
 
 -- "Success is n = 0"; else one of the rows 20 to 30
 pub record Answered (r : Answer) : Type 0 where
-  pub listed : (r .n ≡ 0) ⊎ ((20 ≤ r .n) × (r .n ≤ 30))
+  pub listed : (r .n ≡ 0) ⊎ ToBlockRow (r .n)
   pub packs : Packs r
 
 pub answer-told : (t out : List ℕ) → Answered (toBlock t out .answer)
 unfolding toBlock written
 answer-told t out = by (readText t) (text-known t)
   where
-    listed : {n : ℕ} → (n ≡ 0) ⊎ (n ≡ 29) → (n ≡ 0) ⊎ ((20 ≤ n) × (n ≤ 30))
+    listed : {n : ℕ} → (n ≡ 0) ⊎ (n ≡ 29) → (n ≡ 0) ⊎ ToBlockRow n
     listed (inl e) = inl e
     listed (inr e) = inr (omega arith)
 

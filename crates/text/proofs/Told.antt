@@ -1,20 +1,16 @@
 -- What is known of a judgement over lines: the numbers of its refusal, or a fact of what it gives.
-use mathlib.Core.Path.{_≡_}
-use Prim.Native.Nat.{ℕ, _^_, _≤_, _<_}
+use Prim.Native.Nat.{ℕ, _^_, _<_}
 use native.Mathlib.Omega.{arith}
 use Rattle.units.specs.declared.Answer.{Answer}
+use Rattle.text.specs.Cases.{TextRow}
 use Rattle.units.specs.Answers.{answer, Verdict, passed, refused, onward, Packs}
-
--- the rows of reading a text: 20 to 28, and 30
-abbrev pub Row : ℕ → Type 0
-Row n = (20 ≤ n) × (n ≤ 30) × (n ≡ 29 → ⊥)
 
 -- a refusal of the reader: its number is one of the paper's, and the others have room
 pub record Told (r : Answer) : Type 0 where
-  pub listed : Row (r .n)
+  pub listed : TextRow (r .n)
   pub packs : Packs r
 
-pub told : (n a b : ℕ) → Row n → a < 2 ^ 24 → b < 2 ^ 16 → Told (answer n a b 0)
+pub told : (n a b : ℕ) → TextRow n → a < 2 ^ 24 → b < 2 ^ 16 → Told (answer n a b 0)
 told n a b row ha hb = record { listed = row; packs = omega arith }
 
 -- a refusal is told, and P holds of what is given

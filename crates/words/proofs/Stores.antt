@@ -37,7 +37,6 @@ module _ {A : Type 0} where
       ∙ sets-right new xs (old ++ ys) 0
       ∙ ap (λ l. xs ++ l) (sets-eq new (old ++ ys) 0 (omega (arith, length-append old ys)) ∙ ap (λ l. new ++ l) (drop-at old ys (0 + length new) (omega arith)))
 
--- one word
 -- a run of stores leaves what stands outside of it
 pub sets-outside : (l vs : List ℕ) (i k : ℕ) → (k < i) ⊎ (i + length vs ≤ k) → getD (sets l i vs) k 0 ≡ getD l k 0
 sets-outside l [] i k h = refl

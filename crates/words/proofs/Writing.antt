@@ -82,7 +82,7 @@ pub written-told : (out bytes : List ℕ) → length bytes < 2 ^ 24 → let r = 
 written-told out bytes h = by (written-either out bytes)
   where
     sized : (n : ℕ) → n ≤ 29 → Packs (answer n (length bytes) 0 0)
-    sized n m = record { n-fits = omega arith; a-fits = h; b-fits = omega arith; c-fits = omega arith }
+    sized n m = omega arith
 
     by : {w : Written} {o : List ℕ} → (w ≡ leaves (answer 29 (length bytes) 0 0) out) ⊎ (w ≡ leaves (answer 0 (length bytes) 0 0) o) → ((w .answer .n ≡ 0) ⊎ (w .answer .n ≡ 29)) × Packs (w .answer)
     by (inl e) = rw e (inr refl, sized 29 (omega arith))

@@ -50,7 +50,6 @@ returns c = let l = c .before .before .before .loop in let s = plain-bytes-befor
         cut = cut-behind t (s .args .at .0) (plain-bytes-before-then1 c .plain-bytes .result) (l .i) (l .i + c .before .end-length .result) (plain-bytes-before-then1 c .plain-bytes .ensures) (l .inv .0) (s .pre) (omega (arith, q .0)) (omega (arith, q .1));
         ends = ap (λ k. l .i + k) (c .before .end-length .ensures .0);
         within = omega arith;
-        ahead = omega arith;
         onward = omega arith;
         inside = omega arith;
       };
@@ -78,7 +77,6 @@ returns-2 c = let l = c .before .loop in let s = c .before .before .before .befo
         cut = cut-behind t (s .args .at .0) (c .before .before .before .plain-bytes .result) (l .i) (l .i) (c .before .before .before .plain-bytes .ensures) (l .inv .0) (s .pre) (omega (arith, ap lineLength d)) (omega (arith, ap lineStep d));
         ends = omega (arith, ap endLength d);
         within = omega arith;
-        ahead = omega arith;
         onward = omega arith;
         inside = omega arith;
       };

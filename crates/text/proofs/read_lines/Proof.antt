@@ -63,7 +63,7 @@ part-read-line-start : tie.Need-part-read-line-start Inv-loop μ-loop
 part-read-line-start c = c .next-line .ensures .line .within
 
 part-read-line-end : tie.Need-part-read-line-end Inv-loop μ-loop
-part-read-line-end c = omega (arith, c .next-line .ensures .line .ahead, c .next-line .ensures .line .inside)
+part-read-line-end c = omega (arith, c .next-line .ensures .line .ends, c .next-line .ensures .line .inside)
 
 slice-aggregate-read-line : tie.Need-slice-aggregate-read-line Inv-loop μ-loop
 slice-aggregate-read-line c = sym (c .before .before .before .before .loop .inv .row-long)
