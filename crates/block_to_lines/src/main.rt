@@ -4,7 +4,7 @@ use libc::STDOUT_FILENO;
 
 fn put_lines(block: &[u8]) {
     let mut text = [0u8; 55971];
-    let end = lined::print(block, &mut text).0;
+    let end = printed::print_lines(block, &mut text).0;
     io::write_all(STDOUT_FILENO, &text[..end]);
 }
 

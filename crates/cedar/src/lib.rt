@@ -4,8 +4,8 @@ ghost use mathlib.Core.Path.{_≡_};
 ghost use mathlib.Core.List.{[], _∷_};
 ghost use Rattle.units.specs.Answers.{packedOf};
 ghost use Rattle.cedar.specs.Calls.{judgeAnswer, prefixAnswer, returned, converted, returnedBoth, amendedBoth};
-ghost use Rattle.lines.specs.Text.{toLines};
-ghost use Rattle.text.specs.Block.{toBlock};
+ghost use Rattle.write_lines.specs.Text.{toLines};
+ghost use Rattle.read_text.specs.Block.{toBlock};
 ghost use Rattle.sheet.specs.Sheets.{version1, started};
 ghost use Rattle.amending.specs.Amending.{amend, undo};
 
@@ -32,8 +32,8 @@ pub extern "C" fn cedar_prefix(instrument: u16) -> u64
 pub extern "C" fn cedar_to_lines(block: &[u8], text: &mut [u8]) -> u64
     ensures { λ r. ⌜ returned r (now (text .exit)) ≡ converted (toLines (now (block .entry)) (now (text .entry))) ⌝ }
 {
-    let lined = lines::to_lines(block, text);
-    units::pack(lines::numbers(lined))
+    let lined = write_lines::to_lines(block, text);
+    units::pack(write_lines::numbers(lined))
 }
 
 // uint64_t cedar_to_block(const uint8_t *text, size_t text_length, uint8_t *block, size_t block_length);
@@ -41,8 +41,8 @@ pub extern "C" fn cedar_to_lines(block: &[u8], text: &mut [u8]) -> u64
 pub extern "C" fn cedar_to_block(text: &[u8], block: &mut [u8]) -> u64
     ensures { λ r. ⌜ returned r (now (block .exit)) ≡ converted (toBlock (now (text .entry)) (now (block .entry))) ⌝ }
 {
-    let blocked = text::to_block(text, block);
-    units::pack(text::numbers(blocked))
+    let blocked = read_text::to_block(text, block);
+    units::pack(read_text::numbers(blocked))
 }
 
 // uint64_t cedar_sheet_start(uint8_t *sheet, size_t length);

@@ -12,8 +12,8 @@ use Rattle.units.specs.declared.Lines.{Lines}
 use Rattle.units.specs.declared.Bytes.{Bytes}
 use Rattle.units.specs.Answers.{Verdict, passed, refused, answered}
 use Rattle.words.specs.Outcomes.{Written}
-use Rattle.lines.specs.Text.{toLines}
-use Rattle.text.specs.Block.{toBlock}
+use Rattle.write_lines.specs.Text.{toLines}
+use Rattle.read_text.specs.Block.{toBlock}
 use Rattle.sheet.specs.Sheets.{version1, started}
 use Rattle.record.specs.declared.Fault.the-variants.{Short, Kind, Total, NotZero, Card, Counts}
 use Rattle.block.specs.declared.Judged.{Judged}
@@ -21,20 +21,20 @@ use Rattle.block.specs.declared.Judged.the-variants.{Records, Refused}
 use Rattle.block.specs.declared.Refusal.{Refusal}
 use Rattle.block.specs.declared.Refusal.the-variants.{Size, WordCount, Checksum, Record}
 use Rattle.block.specs.Cases.{BlockRow, refusalOf, judgedOf}
-use Rattle.lines.specs.declared.Lined.{Lined}
-use Rattle.lines.specs.declared.Lined.the-variants.{Text}
-use Rattle.lines.specs.declared.Lined.the-variants as lines
-use Rattle.lines.specs.Cases.{linedOf}
-use Rattle.columns.specs.declared.Flaw.{Flaw}
-use Rattle.columns.specs.declared.Flaw.the-variants.{Byte, NoRecord, Field, Count, Ends, NotBlank, Range, Much, Long}
-use Rattle.columns.specs.declared.Flaw.the-variants as columns
-use Rattle.text.specs.declared.Content.{Content}
-use Rattle.text.specs.declared.Content.the-variants.{Flawed}
-use Rattle.text.specs.declared.Content.the-variants as text
-use Rattle.text.specs.declared.Blocked.{Blocked}
-use Rattle.text.specs.declared.Blocked.the-variants.{Block}
-use Rattle.text.specs.declared.Blocked.the-variants as blocked
-use Rattle.text.specs.Cases.{contentOf, blockedOf}
+use Rattle.write_lines.specs.declared.Lined.{Lined}
+use Rattle.write_lines.specs.declared.Lined.the-variants.{Text}
+use Rattle.write_lines.specs.declared.Lined.the-variants as lines
+use Rattle.write_lines.specs.Cases.{linedOf}
+use Rattle.read_columns.specs.declared.Flaw.{Flaw}
+use Rattle.read_columns.specs.declared.Flaw.the-variants.{Byte, NoRecord, Field, Count, Ends, NotBlank, Range, Much, Long}
+use Rattle.read_columns.specs.declared.Flaw.the-variants as columns
+use Rattle.read_text.specs.declared.Content.{Content}
+use Rattle.read_text.specs.declared.Content.the-variants.{Flawed}
+use Rattle.read_text.specs.declared.Content.the-variants as text
+use Rattle.read_text.specs.declared.Blocked.{Blocked}
+use Rattle.read_text.specs.declared.Blocked.the-variants.{Block}
+use Rattle.read_text.specs.declared.Blocked.the-variants as blocked
+use Rattle.read_text.specs.Cases.{contentOf, blockedOf}
 use Rattle.sheet.specs.declared.Opened.{Opened}
 use Rattle.sheet.specs.declared.Opened.the-variants as sheet
 use Rattle.sheet.specs.Cases.{openedOf}
@@ -43,8 +43,7 @@ use Rattle.amending.specs.declared.Amended.the-variants as amending
 use Rattle.amending.specs.declared.Refusal.the-variants as rows
 use Rattle.amending.specs.Cases.{amendedOf}
 use Rattle.amending.specs.Amending.{Outcome}
-use Rattle.demands.specs.Agree.{JudgeAgrees, CedarJudgeAgrees, StepAgrees, FindAgrees, PrefixAgrees, CedarPrefixAgrees, WrittenAgree, CedarWrittenAgree, LinesAgree, CedarLinesAgree, ContentAgrees, BlockAgrees, CedarBlockAgrees}
-use Rattle.demands.specs.Agree.{PutAgrees, OpenAgrees, StartAgrees, BothAgree, AmendAgrees, UndoAgrees, CedarStartAgrees, CedarBothAgree, CedarAmendAgrees, CedarUndoAgrees}
+use Rattle.demands.specs.Agree.{JudgeAgrees, CedarJudgeAgrees, StepAgrees, FindAgrees, PrefixAgrees, CedarPrefixAgrees, WrittenAgree, CedarWrittenAgree, LinesAgree, CedarLinesAgree, ContentAgrees, BlockAgrees, CedarBlockAgrees, PutAgrees, OpenAgrees, StartAgrees, BothAgree, AmendAgrees, UndoAgrees, CedarStartAgrees, CedarBothAgree, CedarAmendAgrees, CedarUndoAgrees}
 
 -- the case that a refusal's numbers tell
 refusalCase : Answer → Refusal

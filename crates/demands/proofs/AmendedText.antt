@@ -13,10 +13,10 @@ use Rattle.words.proofs.Stores.{sets-outside}
 use Rattle.record.specs.Rules.{RecordOk}
 use Rattle.field.specs.Writing.{fieldOf}
 use Rattle.field.proofs.Written.{length-fieldOf}
-use Rattle.laying.specs.Laying.{ended}
-use Rattle.lines.specs.Lines.{linesOf}
-use Rattle.lines.specs.Text.{textOf}
-use Rattle.lines.specs.Columns.{columnsBefore}
+use Rattle.write_parts.specs.Laid.{ended}
+use Rattle.write_lines.specs.Lines.{linesOf}
+use Rattle.write_lines.specs.Text.{textOf}
+use Rattle.write_lines.specs.Columns.{columnsBefore}
 use Rattle.sheet.specs.Sheets.{Entry}
 use Rattle.amending.specs.Places.{recordNumber, newValue, found, withValue}
 use Rattle.amending.proofs.Named.{Named, named-inside}

@@ -17,12 +17,12 @@ use Rattle.words.proofs.Lists.{all-getD}
 use Rattle.field.specs.declared.Number.the-variants.{Bad}
 use Rattle.field.specs.Reading.{columns, readField}
 use Rattle.units.proofs.Choosing.{both-ways}
-use Rattle.laying.specs.Laying.{Line}
-use Rattle.columns.specs.Columns.{badColumn, inkFrom, inkAfter, blankAfter, wordIn, number, numbers, blankField, zeroField, zeros}
-use Rattle.heading.specs.Heading.{Shape, card, fields, gives, firstLine}
-use Rattle.reading.specs.Reading.{rowFields, inState, lineStep, readLines}
-use Rattle.text.specs.Spelled.{Printed, Readable, Blanks, Spells, SpellsAll, SpellsZero, LineSpells, LinesSpell, no-lines, a-line}
-use Rattle.text.proofs.Columns.{no-ink, ink-turn}
+use Rattle.units.specs.Units.{Line}
+use Rattle.read_columns.specs.Columns.{badColumn, inkFrom, inkAfter, blankAfter, wordIn, number, numbers, blankField, zeroField, zeros}
+use Rattle.read_first_line.specs.Heading.{Shape, card, fields, gives, firstLine}
+use Rattle.read_line.specs.Reading.{rowFields, inState, lineStep, readLines}
+use Rattle.read_text.specs.Spelled.{Printed, Readable, Blanks, Spells, SpellsAll, SpellsZero, LineSpells, LinesSpell, no-lines, a-line}
+use Rattle.read_text.proofs.Columns.{no-ink, ink-turn}
 
 -- ---- the columns of a line
 

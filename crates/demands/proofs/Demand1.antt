@@ -17,16 +17,16 @@ use Rattle.words.proofs.Writing.{written-either}
 use Rattle.block.specs.Cases.{BlockRow}
 use Rattle.block.specs.Judging.{judged}
 use Rattle.block.specs.Records.{recordsOf}
-use Rattle.lines.specs.Text.{textOf, toLines}
-use Rattle.lines.proofs.Outcome.{outcome-told}
+use Rattle.write_lines.specs.Text.{textOf, toLines}
+use Rattle.write_lines.proofs.Outcome.{outcome-told}
 use Rattle.block.proofs.Known.{Known, judged-known}
 use Rattle.prefix.specs.declared.Letters.{Letters}
 use Rattle.prefix.specs.LookUp.{beside}
 use Rattle.prefix.specs.Table.{table, dashes, prefixOf}
 use Rattle.cedar.specs.Calls.{prefixAnswer}
-use Rattle.text.specs.Cases.{TextRow}
-use Rattle.text.specs.Block.{readText, wordsIn, toBlock}
-use Rattle.text.proofs.Known.{Room, text-known, answer-told}
+use Rattle.read_text.specs.Cases.{TextRow}
+use Rattle.read_text.specs.Block.{readText, wordsIn, toBlock}
+use Rattle.read_text.proofs.Known.{Room, text-known, answer-told}
 use Rattle.demands.specs.Demand1.{Judges, JudgeAnswers, PrefixAnswers, LinesAnswers, ContentAnswers, BlockAnswers, Writes, SheetRow, OpenAnswers, StartAnswers, BothAnswer, AmendRow, AmendAnswers, UndoRow, UndoAnswers}
 use Rattle.units.specs.declared.Answer.{Answer}
 use Rattle.units.proofs.Choosing.{by-test, both-ways}
@@ -38,7 +38,7 @@ use Rattle.sheet.specs.Sheets.{Entry, version1, sheetBytes, sheetOf, entriesOf,
 use Rattle.sheet.proofs.Sheets.{sheet-opened}
 use Rattle.amending.specs.Places.{recordNumber, wordNumber, oldValue, recordIn, noRecord, noValue, found, stands}
 use Rattle.amending.specs.Amending.{Both, both, amendable, undoable, lastOf, leaving, onBoth}
-use Rattle.text.proofs.Told as told
+use Rattle.read_text.proofs.Told as told
 
 -- ---- the calls on a block, on a text, and the prefix call
 

@@ -12,9 +12,9 @@ use Rattle.words.proofs.Laws.{words-bytes}
 use Rattle.block.specs.Judging.{inner, judged, Accepted}
 use Rattle.block.specs.Records.{recordsOf}
 use Rattle.block.proofs.Exact.{only-good, every-good, its-records, frame-of}
-use Rattle.lines.specs.Text.{textOf, toLines}
-use Rattle.lines.proofs.Outcome.{when-accepted}
-use Rattle.text.specs.Block.{readText, toBlock}
+use Rattle.write_lines.specs.Text.{textOf, toLines}
+use Rattle.write_lines.proofs.Outcome.{when-accepted}
+use Rattle.read_text.specs.Block.{readText, toBlock}
 use Rattle.demands.specs.Demand2.{AcceptedExactly, OneWay, bytesIn, wrote, blockFrom, standard, LinesRead, BlockLinesBlock, TextGivesBlock, WrittenAccepted, LinesBlockLines, StandardRead, StandardStays, OneStandard}
 use Rattle.demands.proofs.Standard.{text-back}
 use Rattle.demands.proofs.Sound.{its-text}
@@ -22,8 +22,8 @@ use mathlib.Core.Logic.{_⊎_, inl, inr}
 use native.Mathlib.Omega.{arith}
 use Rattle.words.proofs.Writing.{written-either}
 use Rattle.block.specs.Rules.{IsBlock}
-use Rattle.text.proofs.Told.{Known}
-use Rattle.text.proofs.Known.{Room, text-known}
+use Rattle.read_text.proofs.Told.{Known}
+use Rattle.read_text.proofs.Known.{Room, text-known}
 
 pub accepted-exactly : AcceptedExactly
 accepted-exactly b bytes = (λ k e. only-good b k bytes e, λ rs good. every-good b rs good)

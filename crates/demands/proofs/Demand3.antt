@@ -12,8 +12,8 @@ use Rattle.block.specs.Judging.{judged}
 use Rattle.block.specs.Records.{recordsOf}
 use Rattle.block.specs.Rules.{blockOf, IsBlock}
 use Rattle.block.proofs.Exact.{only-good, every-good, its-records}
-use Rattle.lines.specs.Text.{textOf}
-use Rattle.lines.proofs.Outcome.{when-accepted}
+use Rattle.write_lines.specs.Text.{textOf}
+use Rattle.write_lines.proofs.Outcome.{when-accepted}
 use Rattle.sheet.specs.Sheets.{Layout, Entry, sheetOf}
 use Rattle.sheet.specs.Rules.{IsEntry}
 use Rattle.sheet.proofs.Sheets.{opened-sheet}

@@ -2,22 +2,24 @@
 use mathlib.Core.Path.{refl}
 use lib.Count.{ones, onesIn}
 use Rattle.words.specs.Words.{wordsOf, bytesOf, xorAll, joined, framed}
-use Rattle.record.specs.Judging.{passing, wordWithin, wrongTotal, underLeast, firstNotZero, firstNotCard, judgeCards, judgeCounts, judgeData, judgeRecord}
+use Rattle.record.specs.Judging.{wrongTotal, underLeast, firstNotZero, firstNotCard, judgeCards, judgeCounts, judgeData, judgeRecord}
+use Rattle.words.specs.Scans.{passing, wordWithin}
 use Rattle.block.specs.Judging.{wrongSize, walk, judged}
 use Rattle.record.specs.Lines.{lineCount}
 use Rattle.block.specs.Records.{cut, recordsOf}
 use Rattle.field.specs.Writing.{fieldOf}
 use Rattle.units.specs.Decimal.{decimal}
 use Rattle.field.specs.Reading.{readField, columns}
-use Rattle.columns.specs.Columns.{number}
+use Rattle.read_columns.specs.Columns.{number}
 use Rattle.report.specs.Text.{bytesFrom, behind, lineOf}
 use Rattle.report.specs.Decimal.{decimalOf}
 use Rattle.report.specs.Refusal.{refusalLine}
-use Rattle.listed.specs.Listing.{signedOf, rowOf, rowsOf, listingOf}
-use Rattle.laying.specs.Laying.{fieldsOf, part, times, plan, laid, ended}
-use Rattle.lines.specs.Lines.{linesOf}
+use Rattle.printed.specs.Listing.{signedOf, rowOf, rowsOf, listingOf}
+use Rattle.write_parts.specs.Laid.{fieldsOf, laid, ended}
+use Rattle.line_plan.specs.Plan.{part, times, plan}
+use Rattle.write_lines.specs.Lines.{linesOf}
 use Rattle.words.specs.Outcomes.{written}
-use Rattle.lines.specs.Text.{textOf, toLines}
+use Rattle.write_lines.specs.Text.{textOf, toLines}
 use Rattle.prefix.specs.LookUp.{beside}
 use Rattle.prefix.specs.Table.{table}
 use Rattle.record.specs.Values.{isValue}

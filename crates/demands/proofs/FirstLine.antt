@@ -13,12 +13,12 @@ use Rattle.words.specs.Words.{word, All}
 use Rattle.record.specs.Lines.{linesNeeded, lineCount}
 use Rattle.record.specs.Rules.{CardsOk, DataOk, KindOk, catalogue, header, dataRecord, RecordOk}
 use Rattle.record.proofs.Passed.{least-at}
-use Rattle.laying.specs.Laying.{Line, dataPlan}
-use Rattle.lines.specs.Lines.{kindShown}
-use Rattle.lines.proofs.Sizes.{is-cards, data-count}
-use Rattle.heading.specs.Heading.{card, fields, gives, cardsLine, countsIn, planLine, catalogueLine, headerFields, headerLine, countFields, prologueFields, dataLine, kindLine, firstLine}
-use Rattle.reading.specs.Reading.{inState}
-use Rattle.text.specs.Spelled.{Blanks, SpellsAll, CardsSpelled}
+use Rattle.line_plan.specs.Plan.{dataPlan, kindShown}
+use Rattle.units.specs.Units.{Line}
+use Rattle.write_lines.proofs.Sizes.{is-cards, data-count}
+use Rattle.read_first_line.specs.Heading.{card, fields, gives, cardsLine, countsIn, planLine, catalogueLine, headerFields, headerLine, countFields, prologueFields, dataLine, kindLine, firstLine}
+use Rattle.read_line.specs.Reading.{inState}
+use Rattle.read_text.specs.Spelled.{Blanks, SpellsAll, CardsSpelled}
 use Rattle.demands.proofs.Back.{blank-back, first-line, numbers-back, zeros-back}
 
 -- ---- words that must be zero

@@ -11,14 +11,14 @@ use Rattle.record.specs.Judging.{wordsNeeded}
 use Rattle.record.specs.Lines.{lineCount}
 use Rattle.record.specs.Rules.{CardWord, CardsOk, DataOk, KindOk, catalogue, header, dataRecord, RecordOk}
 use Rattle.field.specs.Reading.{columns}
-use Rattle.laying.specs.Laying.{Line, dataPlan}
-use Rattle.lines.specs.Lines.{kindShown, shown}
-use Rattle.lines.proofs.Sizes.{is-cards, data-count}
-use Rattle.heading.specs.Heading.{Shape, card, fields, Read}
-use Rattle.text.specs.Spelled.{Printed, Readable, LineSpells, LinesSpell, no-lines, a-line, CardsSpelled, RecordSpelled, as-catalogue, as-header, as-data}
-use Rattle.columns.proofs.Columns.{columns-all}
-use Rattle.text.proofs.Columns.{card-words, words-below}
-use Rattle.text.proofs.Opened.{wordsToCome, CardsFirst, DataFirst, First, catalogue-first, header-first, data-first, Opens, line-wide, plan-turn}
+use Rattle.line_plan.specs.Plan.{dataPlan, kindShown, shown}
+use Rattle.units.specs.Units.{Line}
+use Rattle.write_lines.proofs.Sizes.{is-cards, data-count}
+use Rattle.read_first_line.specs.Heading.{Shape, card, fields, Read}
+use Rattle.read_text.specs.Spelled.{Printed, Readable, LineSpells, LinesSpell, no-lines, a-line, CardsSpelled, RecordSpelled, as-catalogue, as-header, as-data}
+use Rattle.read_columns.proofs.Columns.{columns-all}
+use Rattle.read_text.proofs.Columns.{card-words, words-below}
+use Rattle.read_text.proofs.Opened.{wordsToCome, CardsFirst, DataFirst, First, catalogue-first, header-first, data-first, Opens, line-wide, plan-turn}
 
 -- ---- the words of lines after a record's first
 

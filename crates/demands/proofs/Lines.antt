@@ -20,12 +20,14 @@ use Rattle.block.specs.Rules.{blockOf, IsBlock}
 use Rattle.block.proofs.Exact.{every-good, its-records}
 use Rattle.field.specs.Writing.{fieldOf}
 use Rattle.field.proofs.Written.{length-fieldOf}
-use Rattle.laying.specs.Laying.{fieldsOf, shorter, part, times, plan, laid, cardLines, ended, dataPlan}
-use Rattle.laying.proofs.Turns.{length-fieldsOf, fieldsIn}
-use Rattle.lines.specs.Lines.{shown, linesOf}
-use Rattle.lines.specs.Text.{textOf}
-use Rattle.lines.specs.Columns.{endsBefore, columnsBefore}
-use Rattle.lines.proofs.Sizes.{sized, text-bound, data-count, data-size, data-lines, cards-lines, data-is, length-plan, fieldsIn-plan}
+use Rattle.write_parts.specs.Laid.{fieldsOf, laid, cardLines, ended}
+use Rattle.line_plan.specs.Plan.{shorter, part, times, plan, dataPlan, shown}
+use Rattle.write_parts.proofs.Turns.{length-fieldsOf}
+use Rattle.line_plan.proofs.Plans.{fieldsIn, length-plan, fieldsIn-plan}
+use Rattle.write_lines.specs.Lines.{linesOf}
+use Rattle.write_lines.specs.Text.{textOf}
+use Rattle.write_lines.specs.Columns.{endsBefore, columnsBefore}
+use Rattle.write_lines.proofs.Sizes.{sized, text-bound, data-count, data-size, data-lines, cards-lines, data-is}
 use Rattle.demands.specs.Lines.{LineCount, LineWidth, TextBound, longest, TextReached, SixColumns, WordStands}
 
 pub line-count : LineCount

@@ -12,15 +12,15 @@ use Rattle.words.specs.Words.{joined, All}
 use Rattle.words.proofs.Lists.{all-append}
 use Rattle.record.specs.Rules.{RecordOk}
 use Rattle.block.proofs.Exact.{some-record}
-use Rattle.laying.specs.Laying.{Line}
-use Rattle.cutting.specs.Cutting.{linesIn}
-use Rattle.heading.specs.Heading.{Shape, Read}
-use Rattle.reading.specs.Reading.{lineStep, atEnd, readLines}
-use Rattle.text.specs.Block.{readText}
-use Rattle.text.specs.Spelled.{Readable, Blanks, LinesSpell, no-lines, a-line, Spelled, at-end, blank-line, a-record}
-use Rattle.text.proofs.Told.{Known}
-use Rattle.text.proofs.Opened.{wordsToCome, Opens, skipped, opens, Given, Taken, line-known}
-use Rattle.text.proofs.Known.{lines-most, room-on, words-room}
+use Rattle.units.specs.Units.{Line}
+use Rattle.read_cut.specs.Cutting.{linesIn}
+use Rattle.read_first_line.specs.Heading.{Shape, Read}
+use Rattle.read_line.specs.Reading.{lineStep, atEnd, readLines}
+use Rattle.read_text.specs.Block.{readText}
+use Rattle.read_text.specs.Spelled.{Readable, Blanks, LinesSpell, no-lines, a-line, Spelled, at-end, blank-line, a-record}
+use Rattle.read_text.proofs.Told.{Known}
+use Rattle.read_text.proofs.Opened.{wordsToCome, Opens, skipped, opens, Given, Taken, line-known}
+use Rattle.read_text.proofs.Known.{lines-most, room-on, words-room}
 use Rattle.demands.specs.Texts.{IsText}
 use Rattle.demands.proofs.Gathered.{done}
 

@@ -20,16 +20,19 @@ use Rattle.field.specs.Reading.{columns, readField}
 use Rattle.field.proofs.Written.{length-fieldOf, bytes-fieldOf}
 use Rattle.field.proofs.Back.{read-written}
 use Rattle.units.proofs.Choosing.{both-ways}
-use Rattle.laying.specs.Laying.{Line, fieldsOf, laid, cardLines, ended, dataPlan}
-use Rattle.laying.proofs.Turns.{length-fieldsOf, fieldsIn}
-use Rattle.lines.specs.Lines.{kindShown, shown, linesOf}
-use Rattle.lines.specs.Text.{textOf}
-use Rattle.lines.proofs.Sizes.{sized, is-cards, cards-lines, data-lines, fieldsIn-plan, text-most}
-use Rattle.cutting.specs.Cutting.{onto, linesIn, endLength}
-use Rattle.columns.proofs.Columns.{columns-full}
-use Rattle.heading.specs.Heading.{card, fields}
-use Rattle.text.specs.Block.{readText}
-use Rattle.text.specs.Spelled.{Printed, Readable, Blanks, Spells, SpellsAll, LineSpells, LinesSpell, no-lines, a-line, CardsSpelled, RecordSpelled, as-catalogue, as-header, as-data, Spelled, at-end, a-record}
+use Rattle.write_parts.specs.Laid.{fieldsOf, laid, cardLines, ended}
+use Rattle.line_plan.specs.Plan.{dataPlan, kindShown, shown}
+use Rattle.units.specs.Units.{Line}
+use Rattle.write_parts.proofs.Turns.{length-fieldsOf}
+use Rattle.line_plan.proofs.Plans.{fieldsIn, fieldsIn-plan}
+use Rattle.write_lines.specs.Lines.{linesOf}
+use Rattle.write_lines.specs.Text.{textOf}
+use Rattle.write_lines.proofs.Sizes.{sized, is-cards, cards-lines, data-lines, text-most}
+use Rattle.read_cut.specs.Cutting.{onto, linesIn, endLength}
+use Rattle.read_columns.proofs.Columns.{columns-full}
+use Rattle.read_first_line.specs.Heading.{card, fields}
+use Rattle.read_text.specs.Block.{readText}
+use Rattle.read_text.specs.Spelled.{Printed, Readable, Blanks, Spells, SpellsAll, LineSpells, LinesSpell, no-lines, a-line, CardsSpelled, RecordSpelled, as-catalogue, as-header, as-data, Spelled, at-end, a-record}
 use Rattle.demands.proofs.Lines.{line-width}
 use Rattle.demands.proofs.Texts.{text-read}
 

@@ -13,13 +13,13 @@ use Rattle.words.proofs.Lists.{all-parts}
 use Rattle.record.specs.Lines.{lineCount}
 use Rattle.record.specs.Rules.{RecordOk}
 use Rattle.block.proofs.Exact.{ok-long}
-use Rattle.laying.specs.Laying.{Line, dataPlan}
-use Rattle.lines.specs.Lines.{kindShown, shown}
-use Rattle.heading.specs.Heading.{Shape, card, fields, gives}
-use Rattle.reading.specs.Reading.{inState, atEnd, readLines}
-use Rattle.text.specs.Block.{readText}
-use Rattle.text.specs.Spelled.{Readable, LineSpells, LinesSpell, a-line, RecordSpelled, as-catalogue, as-header, as-data, Spelled, at-end, blank-line, a-record}
-use Rattle.text.proofs.Opened.{plan-turn}
+use Rattle.line_plan.specs.Plan.{dataPlan, kindShown, shown}
+use Rattle.units.specs.Units.{Line}
+use Rattle.read_first_line.specs.Heading.{Shape, card, fields, gives}
+use Rattle.read_line.specs.Reading.{inState, atEnd, readLines}
+use Rattle.read_text.specs.Block.{readText}
+use Rattle.read_text.specs.Spelled.{Readable, LineSpells, LinesSpell, a-line, RecordSpelled, as-catalogue, as-header, as-data, Spelled, at-end, blank-line, a-record}
+use Rattle.read_text.proofs.Opened.{plan-turn}
 use Rattle.demands.specs.Texts.{IsText, TextsExactly}
 use Rattle.demands.proofs.Back.{ahead, line-back, skip-back, joins, lines-back}
 use Rattle.demands.proofs.FirstLine.{catalogue-given, header-given, data-given}

@@ -13,7 +13,7 @@ use Rattle.words.proofs.Lists.{all-at, all-set}
 use Rattle.record.specs.Rules.{dataRecord, RecordOk}
 use Rattle.record.specs.Values.{isValue}
 use Rattle.record.proofs.Values.{is-data}
-use Rattle.lines.specs.Columns.{columnsBefore}
+use Rattle.write_lines.specs.Columns.{columnsBefore}
 use Rattle.sheet.specs.Sheets.{Entry}
 use Rattle.amending.specs.Places.{recordNumber, wordNumber, recordIn, found, withValue}
 use Rattle.amending.proofs.Named.{Named, named-inside, named-value}

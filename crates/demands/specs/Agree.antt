@@ -12,11 +12,11 @@ use Rattle.block.specs.Steps.{stepOf, findOf}
 use Rattle.words.specs.Words.{wordsOf}
 use Rattle.words.specs.Outcomes.{Written, leaves}
 use Rattle.words.specs.Writing.{Put}
-use Rattle.lines.specs.Cases.{linedOf}
-use Rattle.lines.specs.Text.{toLines}
-use Rattle.text.specs.declared.Content.{Content}
-use Rattle.text.specs.Cases.{contentOf, blockedOf}
-use Rattle.text.specs.Block.{wordsIn, toBlock}
+use Rattle.write_lines.specs.Cases.{linedOf}
+use Rattle.write_lines.specs.Text.{toLines}
+use Rattle.read_text.specs.declared.Content.{Content}
+use Rattle.read_text.specs.Cases.{contentOf, blockedOf}
+use Rattle.read_text.specs.Block.{wordsIn, toBlock}
 use Rattle.sheet.specs.declared.Opened.{Opened}
 use Rattle.sheet.specs.Cases.{openedOf}
 use Rattle.sheet.specs.Sheets.{Entry, version1, opened, started}
@@ -58,7 +58,7 @@ WrittenAgree {R} of o = (r s : R) (t u : List ℕ) → leaves (of r) t ≡ o →
 abbrev pub CedarWrittenAgree : Written → Type 0
 CedarWrittenAgree o = (r s : ℕ) (t u : List ℕ) → returned r t ≡ converted o → returned s u ≡ converted o → (r ≡ s) × (t ≡ u)
 
--- `lines::to_lines`
+-- `write_lines::to_lines`
 abbrev pub LinesAgree : Type 0
 LinesAgree = (block text : List ℕ) → WrittenAgree linedOf (toLines block text)
 
@@ -66,11 +66,11 @@ LinesAgree = (block text : List ℕ) → WrittenAgree linedOf (toLines block tex
 abbrev pub CedarLinesAgree : Type 0
 CedarLinesAgree = (block text : List ℕ) → CedarWrittenAgree (toLines block text)
 
--- `text::judge`
+-- `read_text::judge`
 abbrev pub ContentAgrees : Type 0
 ContentAgrees = (text : List ℕ) (r s : Content) → contentOf r ≡ wordsIn text → contentOf s ≡ wordsIn text → r ≡ s
 
--- `text::to_block`
+-- `read_text::to_block`
 abbrev pub BlockAgrees : Type 0
 BlockAgrees = (text block : List ℕ) → WrittenAgree blockedOf (toBlock text block)
 
@@ -78,7 +78,7 @@ BlockAgrees = (text block : List ℕ) → WrittenAgree blockedOf (toBlock text b
 abbrev pub CedarBlockAgrees : Type 0
 CedarBlockAgrees = (text block : List ℕ) → CedarWrittenAgree (toBlock text block)
 
--- a writer: `listed::list`, `lined::print`, `blocked::print` and what they call promise which text is put at which place
+-- a writer: `printed::print_listing`, `print_lines`, `print_block` and what they call promise which text is put at which place
 abbrev pub PutAgrees : Type 0
 PutAgrees = (before text after also : List ℕ) (at n m : ℕ) → Put before at text after n → Put before at text also m → (after ≡ also) × (n ≡ m)
 

@@ -12,10 +12,10 @@ use Rattle.words.specs.Words.{Below}
 use Rattle.words.specs.Outcomes.{Written}
 use Rattle.block.specs.Cases.{BlockRow}
 use Rattle.block.specs.Judging.{judged}
-use Rattle.lines.specs.Cases.{LinesRow}
-use Rattle.lines.specs.Text.{toLines}
-use Rattle.text.specs.Cases.{TextRow, ToBlockRow}
-use Rattle.text.specs.Block.{wordsIn, toBlock}
+use Rattle.write_lines.specs.Cases.{LinesRow}
+use Rattle.write_lines.specs.Text.{toLines}
+use Rattle.read_text.specs.Cases.{TextRow, ToBlockRow}
+use Rattle.read_text.specs.Block.{wordsIn, toBlock}
 use Rattle.sheet.specs.Sheets.{Entry, version1, opened, started}
 use Rattle.amending.specs.Amending.{Outcome, amend, undo}
 use Rattle.cedar.specs.Calls.{prefixAnswer}

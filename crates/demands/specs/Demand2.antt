@@ -12,8 +12,8 @@ use Rattle.record.specs.Rules.{RecordOk}
 use Rattle.block.specs.Judging.{judged, Accepted}
 use Rattle.block.specs.Records.{recordsOf}
 use Rattle.block.specs.Rules.{IsBlock}
-use Rattle.lines.specs.Text.{textOf, toLines}
-use Rattle.text.specs.Block.{readText, toBlock}
+use Rattle.write_lines.specs.Text.{textOf, toLines}
+use Rattle.read_text.specs.Block.{readText, toBlock}
 
 -- what is accepted is a good block, and every good block is accepted, with the number of its records
 abbrev pub AcceptedExactly : Type 0

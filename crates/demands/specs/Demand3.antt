@@ -17,8 +17,8 @@ use Rattle.block.specs.Judging.{judged}
 use Rattle.block.specs.Records.{recordsOf}
 use Rattle.block.specs.Rules.{blockOf}
 use Rattle.field.specs.Writing.{fieldOf}
-use Rattle.lines.specs.Text.{textOf, toLines}
-use Rattle.lines.specs.Columns.{columnsBefore}
+use Rattle.write_lines.specs.Text.{textOf, toLines}
+use Rattle.write_lines.specs.Columns.{columnsBefore}
 use Rattle.sheet.specs.Sheets.{Layout, Entry, sheetOf}
 use Rattle.sheet.specs.Rules.{IsEntry}
 use Rattle.amending.specs.Places.{recordNumber, wordNumber, oldValue, newValue, recordIn, found, withValue}

@@ -10,16 +10,16 @@ use Rattle.units.specs.Answers.{answer, Verdict, passed, refused}
 use Rattle.words.specs.Words.{bytesOf}
 use Rattle.block.specs.Judging.{judged}
 use Rattle.block.specs.Records.{recordsOf}
-use Rattle.lines.specs.Lines.{linesOf}
-use Rattle.lines.specs.Text.{toLines}
+use Rattle.write_lines.specs.Lines.{linesOf}
+use Rattle.write_lines.specs.Text.{toLines}
 use Rattle.field.specs.Writing.{fieldOf}
-use Rattle.columns.specs.Columns.{number}
+use Rattle.read_columns.specs.Columns.{number}
 use Rattle.report.specs.Text.{text}
 use Rattle.prefix.specs.Table.{letters, prefixOf}
 use Rattle.sheet.specs.Sheets.{version1, sheetOf}
 use Rattle.amending.specs.Places.{recordIn}
 use Rattle.cedar.specs.Calls.{judgeAnswer}
-use Rattle.listed.specs.Listing.{listingOf}
+use Rattle.printed.specs.Listing.{listingOf}
 use Rattle.demands.specs.Demand3.{Call, amends, undoes, doneAll, leftBy, fresh}
 
 -- "Block K", with NROW, word 22 of its record and the checksum left open; -32767 is the word 32769

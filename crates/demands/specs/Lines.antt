@@ -11,9 +11,9 @@ use Rattle.block.specs.Judging.{Accepted}
 use Rattle.block.specs.Records.{recordsOf}
 use Rattle.block.specs.Rules.{blockOf}
 use Rattle.field.specs.Writing.{fieldOf}
-use Rattle.lines.specs.Lines.{linesOf}
-use Rattle.lines.specs.Text.{textOf}
-use Rattle.lines.specs.Columns.{columnsBefore}
+use Rattle.write_lines.specs.Lines.{linesOf}
+use Rattle.write_lines.specs.Text.{textOf}
+use Rattle.write_lines.specs.Columns.{columnsBefore}
 
 -- "Field 1 is the record's line count": the lines are as many as the counts say
 abbrev pub LineCount : Type 0

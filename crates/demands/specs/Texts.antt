@@ -7,9 +7,9 @@ use lib.ListN.{length}
 use Rattle.units.specs.Answers.{passed}
 use Rattle.words.specs.Words.{joined, All}
 use Rattle.record.specs.Rules.{RecordOk}
-use Rattle.cutting.specs.Cutting.{linesIn}
-use Rattle.text.specs.Block.{readText}
-use Rattle.text.specs.Spelled.{Readable, Spelled}
+use Rattle.read_cut.specs.Cutting.{linesIn}
+use Rattle.read_text.specs.Block.{readText}
+use Rattle.read_text.specs.Spelled.{Readable, Spelled}
 
 -- this text is one of these records: at most 65,536 bytes, whose lines are the records in some spelling with blank lines around them
 pub record IsText (t : List ℕ) (rs : List (List ℕ)) : Type 0 where

@@ -4,7 +4,7 @@ use libc::STDOUT_FILENO;
 
 fn put_block(text: &[u8]) {
     let mut block = [0u8; 16000];
-    let end = blocked::print(text, &mut block).0;
+    let end = printed::print_block(text, &mut block).0;
     io::write_all(STDOUT_FILENO, &block[..end]);
 }
 

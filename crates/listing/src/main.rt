@@ -4,7 +4,7 @@ use libc::STDOUT_FILENO;
 
 fn put_listing(block: &[u8]) {
     let mut listing = [0u8; 32768];
-    let end = listed::list(block, &mut listing).0;
+    let end = printed::print_listing(block, &mut listing).0;
     io::write_all(STDOUT_FILENO, &listing[..end]);
 }
 

@@ -12,7 +12,8 @@ use Rattle.units.specs.Choice.{if_then_else_}
 use Rattle.units.proofs.Verdicts.{and-on}
 use Rattle.words.specs.Words.{word, All, Below}
 use Rattle.words.proofs.Lists.{all-take}
-use Rattle.record.specs.Judging.{passing, within, wordWithin, isZero, cardWord, firstNotZero, firstNotCard}
+use Rattle.record.specs.Judging.{cardWord, firstNotZero, firstNotCard}
+use Rattle.words.specs.Scans.{passing, within, wordWithin, isZero}
 use Rattle.record.specs.Rules.{CardWord, CardsOk, DataOk, KindOk, catalogue, header, dataRecord, RecordOk}
 use Rattle.record.proofs.Passed.{CardsPassed, DataPassed, RecordPassed, a-catalogue, a-header, a-data}
 

@@ -1,68 +1,12 @@
--- The scan for the first word that fails a test, a turn at a time.
-use mathlib.Core.Path.{_≡_, refl, ap, _∙_}
-use mathlib.Core.Bool.{Bool, true, false}
-use mathlib.Core.List.{List, [], _∷_}
-use Prim.Native.Nat.{ℕ, suc, _+_, _-_, _*_, _/_, _%_, _≤_, _<_}
-use native.Mathlib.Numerals.{add-one}
+-- How far the scans of a Catalogue or a Header can go.
+use Prim.Native.Nat.{ℕ, _+_, _-_, _≤_}
+use mathlib.Core.List.{List}
 use native.Mathlib.Omega.{arith}
-use lib.ListN.{length, getD, drop, drop-of-length-le}
-use lib.Seq.{drop-cons, slice, length-slice}
-use Rattle.words.specs.Words.{wordsOf}
-use Rattle.words.proofs.Laws.{words-slice}
-use Rattle.units.specs.Choice.{if_then_else_}
-use lib.Dec.{eqb, leb}
-use borrow.Author.Tests.{eqb-true, eqb-false, leb-true, le-leb, lt-leb}
-use Rattle.record.specs.Judging.{passing, wordWithin, isZero, cardWord, firstNotZero, firstNotCard}
-
-module _ (p : ℕ → Bool) (ws : List ℕ) (i w : ℕ) (h : i < length ws) (e : w ≡ getD ws i 0) where
-  cut : drop i ws ≡ w ∷ drop (i + 1) ws
-  cut = rw (add-one, e) (drop-cons ws i 0 h)
-
-  -- the word passes: the scan goes on
-  pub scan-on : p w ≡ true → i + passing p (drop i ws) ≡ i + 1 + passing p (drop (i + 1) ws)
-  unfolding passing
-  scan-on t = rw (cut, t) (omega arith)
-
-  -- the word fails: it is the first
-  pub scan-stop : p w ≡ false → passing p (drop i ws) ≡ 0
-  unfolding passing
-  scan-stop t = rw (cut, t)
-
--- the scan has come to the end
-pub scan-end : (p : ℕ → Bool) (ws : List ℕ) (i : ℕ) → length ws ≤ i → passing p (drop i ws) ≡ 0
-unfolding passing
-scan-end p ws i h = rw (drop-of-length-le ws {i = i} h)
-
--- two tests that say the same scan the same
-pub scan-same : (p q : ℕ → Bool) → ((w : ℕ) → p w ≡ q w) → (ws : List ℕ) → passing p ws ≡ passing q ws
-unfolding passing
-scan-same p q e [] = refl
-scan-same p q e (w ∷ ws) = rw (e w, scan-same p q e ws)
-
-pub scan-le : (p : ℕ → Bool) (ws : List ℕ) → passing p ws ≤ length ws
-unfolding passing
-scan-le p [] = omega arith
-scan-le p (w ∷ ws) = go (p w) (scan-le p ws)
-  where
-    go : (t : Bool) → passing p ws ≤ length ws → (if t then suc (passing p ws) else 0) ≤ suc (length ws)
-    go true h = omega arith
-    go false h = omega arith
-
--- a word is zero where both its bytes are
-pub zero-within : (w : ℕ) → wordWithin 0 0 w ≡ isZero w
-unfolding wordWithin
-zero-within w = by (eqb w 0) refl (leb (w / 256) 0) refl
-  where
-    by : (t : Bool) → eqb w 0 ≡ t → (s : Bool) → leb (w / 256) 0 ≡ s → wordWithin 0 0 w ≡ isZero w
-    by true e s f = let z = eqb-true w 0 e in rw z refl
-    by false e false f = simp (e, f, le-leb 0 (w / 256) (omega arith))
-    by false e true f =
-        let l : 0 < w % 256 = omega (arith, leb-true (w / 256) 0 f, eqb-false w 0 e) in
-        simp (e, f, le-leb 0 (w / 256) (omega arith), le-leb 0 (w % 256) (omega arith), lt-leb (w % 256) 0 l)
-
--- a scan of the words of a part
-pub part-scan : (p : ℕ → Bool) (f t : ℕ) (b part : List ℕ) → part ≡ slice (f * 2) (t * 2) b → passing p (wordsOf part) ≡ passing p (slice f t (wordsOf b))
-part-scan p f t b part e = ap (λ l. passing p (wordsOf l)) e ∙ ap (passing p) (words-slice f t b)
+use lib.ListN.{length}
+use lib.Seq.{slice, length-slice}
+use Rattle.words.specs.Scans.{isZero}
+use Rattle.words.proofs.Scans.{scan-le}
+use Rattle.record.specs.Judging.{cardWord, firstNotZero, firstNotCard}
 
 pub not-zero-most : (z : ℕ) (ws : List ℕ) → 1 ≤ z → z ≤ 41 → 40 ≤ length ws → firstNotZero z ws ≤ 41
 unfolding firstNotZero

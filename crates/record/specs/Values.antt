@@ -4,7 +4,8 @@ use mathlib.Core.List.{List}
 use mathlib.Core.Bool.{Bool, _&&_, _||_}
 use lib.Dec.{eqb}
 use Rattle.words.specs.Words.{word}
-use Rattle.record.specs.Judging.{within, wordsNeeded}
+use Rattle.record.specs.Judging.{wordsNeeded}
+use Rattle.words.specs.Scans.{within}
 
 -- "JPAR codes follow the prologue, then JPAR values, MPAR codes, and NROW rows of MPAR values": word w is one of the values
 abbrev pub amongValues : ℕ → ℕ → ℕ → ℕ → ℕ → Bool

@@ -6,7 +6,8 @@ ghost use mathlib.Core.Path.{_≡_};
 ghost use Prim.Native.Nat.{_+_, _*_, _<_, _≤_};
 ghost use lib.ListN.{length};
 ghost use Rattle.words.specs.Words.{wordsOf};
-ghost use Rattle.record.specs.Judging.{passing, within, wordWithin, wrongTotal, underLeast, wordsNeeded, judgeCards, judgeCounts, judgeData, judgeRecord};
+ghost use Rattle.words.specs.Scans.{within};
+ghost use Rattle.record.specs.Judging.{wrongTotal, underLeast, wordsNeeded, judgeCards, judgeCounts, judgeData, judgeRecord};
 ghost use Rattle.record.specs.Cases.{faultOf, checkedOf};
 ghost use Rattle.record.specs.Lines.{linesNeeded, lineCount};
 ghost use Rattle.record.specs.Values.{amongValues, isValue};
@@ -31,34 +32,6 @@ pub enum Fault {
 pub enum Checked {
     Passed(Words),
     Refused(Fault),
-}
-
-// Both bytes of a word lie from `least` to `most`.
-fn word_within(w: u16, least: u16, most: u16) -> bool
-    ensures { λ r. ⌜ r ≡ wordWithin least most w ⌝ }
-{
-    byte_within(w / 256, least, most) && byte_within(w % 256, least, most)
-}
-
-fn byte_within(x: u16, least: u16, most: u16) -> bool
-    ensures { λ r. ⌜ r ≡ within least most x ⌝ }
-{
-    least <= x && x <= most
-}
-
-// The words before the first of `part` that has a byte outside of `least` to `most`.
-pub fn first_outside(part: &[u8], least: u16, most: u16) -> Words
-    ensures { λ r. ⌜ r .0 ≡ passing (wordWithin least most) (wordsOf (now (part .entry))) ⌝ }
-{
-    let end = words::count(part).0;
-    let mut i = 0;
-    while i < end {
-        if !word_within(words::word_at(part, Words(i)), least, most) {
-            return Words(i);
-        }
-        i += 1;
-    }
-    Words(i)
 }
 
 // LTOT of a Catalogue or a Header is no multiple of 40 from 40 on, or more than is left.
@@ -87,11 +60,11 @@ fn judge_cards(rest: &[u8], number: u16, first: Words) -> Checked
     if wrong_total(total, words::count(rest)) {
         return Checked::Refused(Fault::Total(number));
     }
-    let bad = z + first_outside(words::part(rest, Words(z - 1), Words(40)), 0, 0).0;
+    let bad = z + words::first_outside(words::part(rest, Words(z - 1), Words(40)), 0, 0).0;
     if bad <= 40 {
         return Checked::Refused(Fault::NotZero(number, bad as u16));
     }
-    let odd = 41 + first_outside(words::part(rest, Words(40), total), 32, 126).0;
+    let odd = 41 + words::first_outside(words::part(rest, Words(40), total), 32, 126).0;
     if odd <= end {
         return Checked::Refused(Fault::Card(number, odd as u16));
     }

@@ -11,6 +11,6 @@ unfoldable pub refusalLine : Answer → List ℕ
 refusalLine r = lineOf (text "refused" ∷ decimalOf (r .n) ∷ decimalOf (r .a) ∷ decimalOf (r .b) ∷ decimalOf (r .c) ∷ [])
 
 -- "For a refusal it prints only one line": what a program makes of what passed, or that line
-abbrev pub printed : {A : Type 0} → (A → List ℕ) → Verdict A → List ℕ
-printed f (passed x) = f x
-printed f (refused r) = refusalLine r
+abbrev pub orRefusal : {A : Type 0} → (A → List ℕ) → Verdict A → List ℕ
+orRefusal f (passed x) = f x
+orRefusal f (refused r) = refusalLine r

@@ -30,22 +30,6 @@ pub fn write_number(n: u32, out: &mut [u8], at: Bytes) -> Bytes
     write_digit(n % 10, out, to)
 }
 
-// Puts all of `text`.
-pub fn write_text(text: &[u8], out: &mut [u8], at: Bytes) -> Bytes
-    requires { ⌜ Room (now out) (at .0) (now text) ⌝ }
-    ensures { λ r. ⌜ Put (now (out .entry)) (at .0) (now (text .entry)) (now (out .exit)) (r .0) ⌝ }
-{
-    let end = text.len();
-    let mut i = 0;
-    let mut to = at.0;
-    while i < end {
-        out[to] = text[i];
-        i += 1;
-        to += 1;
-    }
-    Bytes(to)
-}
-
 // Puts numbers, one space before each.
 pub fn write_spaced(numbers: &[u32], out: &mut [u8], at: Bytes) -> Bytes
     requires { ⌜ Room (now out) (at .0) (spaced (now numbers)) ⌝ }
@@ -72,7 +56,7 @@ pub fn write_refusal(r: Answer, out: &mut [u8], at: Bytes) -> Bytes
     let a = r.a;
     let b = r.b as u32;
     let c = r.c as u32;
-    let to = write_text(b"refused", out, at);
+    let to = words::write_bytes(b"refused", out, at);
     let to = write_spaced(&[n, a, b, c], out, to);
-    write_text(b"\n", out, to)
+    words::write_bytes(b"\n", out, to)
 }

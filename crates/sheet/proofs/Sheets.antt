@@ -16,7 +16,7 @@ use Rattle.units.proofs.Verdicts.{else-passed, or-off}
 use Rattle.words.specs.Words.{wordsOf, bytesOf, joined, All, Below}
 use Rattle.words.proofs.Laws.{length-wordsOf, length-bytesOf, bytes-words, words-bytes, words-below, getD-below}
 use Rattle.words.proofs.Lists.{all-take, all-drop}
-use Rattle.record.specs.Judging.{passing, isZero}
+use Rattle.words.specs.Scans.{passing, isZero}
 use Rattle.sheet.specs.Sheets.{Layout, Entry, sheetBytes, sheetWith, sheetOf, numberAt, countIn, numbersIn, entries, entriesOf, zeros, wrongMark, broken, opened}
 use Rattle.sheet.specs.Rules.{IsEntry, IsSheet}
 

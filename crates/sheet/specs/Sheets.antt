@@ -9,7 +9,7 @@ use Rattle.units.specs.Units.{bytesOfWords}
 use Rattle.units.specs.Answers.{answer, Verdict, passed, refused}
 use Rattle.words.specs.Words.{wordsOf, bytesOf, joined}
 use Rattle.words.specs.Outcomes.{Written, leaves}
-use Rattle.record.specs.Judging.{passing, isZero}
+use Rattle.words.specs.Scans.{passing, isZero}
 
 -- a layout of sheets: its version, how many entries it has room for, how many words an entry has
 pub record Layout : Type 0 where

@@ -75,7 +75,7 @@ fn more_stands(sheet: &[u8], count: u16) -> bool
     ensures { λ r. ⌜ r ≡ not (zeros (drop (count * version1 .words) (numbersIn (now (sheet .entry))))) ⌝ }
 {
     let rest = words::part(sheet, before_entry(count), before_entry(LIMIT));
-    let clear = record::first_outside(rest, 0, 0).0;
+    let clear = words::first_outside(rest, 0, 0).0;
     let all = words::count(rest).0;
     clear != all
 }

@@ -104,6 +104,20 @@ pub fn row(n: u8, a: u16, b: u16, c: u16) -> Answer
     }
 }
 
+// An answer that says a number of bytes.
+pub fn sized(n: u8, size: Bytes) -> Answer
+    requires { ⌜ size .0 < 2 ^ 24 ⌝ }
+    ensures { λ r. ⌜ r ≡ answer n (size .0) 0 0 ⌝ }
+{
+    let bytes = size.0;
+    Answer {
+        n,
+        a: bytes as u32,
+        b: 0,
+        c: 0,
+    }
+}
+
 // The four numbers as one.
 pub fn pack(r: Answer) -> u64
     requires { ⌜ r .a < 2 ^ 24 ⌝ }

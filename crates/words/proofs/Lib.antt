@@ -5,3 +5,4 @@ pub mod Writing
 pub mod Sealing
 pub mod Stores
 pub mod Joined
+pub mod Scans

@@ -7,6 +7,8 @@ ghost use Prim.Native.Nat.{_+_, _<_, _≤_};
 ghost use lib.ListN.{length, getD, drop};
 ghost use lib.Seq.{sets, slice};
 ghost use Rattle.units.specs.Units.{bytesOfWords};
+ghost use Rattle.words.specs.Scans.{passing, within, wordWithin};
+ghost use Rattle.words.specs.Writing.{Room, Put};
 ghost use Rattle.words.specs.Words.{wordsOf, bytesOf, xorAll, swapped, words, framed};
 
 fn wide(x: u8) -> u16
@@ -80,6 +82,50 @@ pub fn exclusive_or(part: &[u8]) -> u16
         i += 1;
     }
     swap(x)
+}
+
+// Both bytes of a word lie from `least` to `most`.
+fn word_within(w: u16, least: u16, most: u16) -> bool
+    ensures { λ r. ⌜ r ≡ wordWithin least most w ⌝ }
+{
+    byte_within(w / 256, least, most) && byte_within(w % 256, least, most)
+}
+
+fn byte_within(x: u16, least: u16, most: u16) -> bool
+    ensures { λ r. ⌜ r ≡ within least most x ⌝ }
+{
+    least <= x && x <= most
+}
+
+// The words before the first of `part` that has a byte outside of `least` to `most`.
+pub fn first_outside(part: &[u8], least: u16, most: u16) -> Words
+    ensures { λ r. ⌜ r .0 ≡ passing (wordWithin least most) (wordsOf (now (part .entry))) ⌝ }
+{
+    let end = count(part).0;
+    let mut i = 0;
+    while i < end {
+        if !word_within(word_at(part, Words(i)), least, most) {
+            return Words(i);
+        }
+        i += 1;
+    }
+    Words(i)
+}
+
+// Puts all of `text` at a place; all other bytes stay.
+pub fn write_bytes(text: &[u8], out: &mut [u8], at: Bytes) -> Bytes
+    requires { ⌜ Room (now out) (at .0) (now text) ⌝ }
+    ensures { λ r. ⌜ Put (now (out .entry)) (at .0) (now (text .entry)) (now (out .exit)) (r .0) ⌝ }
+{
+    let end = text.len();
+    let mut i = 0;
+    let mut to = at.0;
+    while i < end {
+        out[to] = text[i];
+        i += 1;
+        to += 1;
+    }
+    Bytes(to)
 }
 
 // Puts the length word before so many record words, and the checksum after them; all bytes past those stay.

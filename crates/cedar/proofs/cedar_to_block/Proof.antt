@@ -1,7 +1,7 @@
 use Rattle.cedar.specs.Calls.{converted}
 use Rattle.units.specs.Answers.{Packs}
-use Rattle.text.proofs.Known.{answer-told}
-use Rattle.text.specs.Cases.{blockedOf}
+use Rattle.read_text.proofs.Known.{answer-told}
+use Rattle.read_text.specs.Cases.{blockedOf}
 use denote.Ref.{now}
 use native.Mathlib.Omega.{arith}
 use mathlib.Core.Path.{ap}

@@ -1,6 +1,6 @@
 use Rattle.cedar.specs.Calls.{converted}
-use Rattle.lines.proofs.Outcome.{outcome-told}
-use Rattle.lines.specs.Cases.{linedOf}
+use Rattle.write_lines.proofs.Outcome.{outcome-told}
+use Rattle.write_lines.specs.Cases.{linedOf}
 use Rattle.words.proofs.Laws.{all-below}
 use denote.Ref.{now}
 use native.Mathlib.Omega.{arith}

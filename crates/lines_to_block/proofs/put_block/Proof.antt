@@ -4,20 +4,20 @@ use native.Mathlib.Omega.{arith}
 use lib.Seq.{length-take-le}
 use lib.ListN.{length}
 use denote.Ref.{now}
-use Rattle.blocked.proofs.Outcome.{printed-bound}
+use Rattle.printed.proofs.Outcome.{block-bound}
 use borrow.Author.Needs.{needs}
 use Rattle.lines_to_block.proofs.put_block.Statement.{statement}
 use Rattle.lines_to_block.proofs.put_block.Tie as tie
 
 -- what is printed fits
-room : (c : tie.After-print) → c .print .result .0 ≤ length (c .print .last .1 .0)
-room c = omega (arith, c .print .ensures .ends, printed-bound (now (c .before .before .before .args .text)), c .print .kept .1)
+room : (c : tie.After-print-block) → c .print-block .result .0 ≤ length (c .print-block .last .1 .0)
+room c = omega (arith, c .print-block .ensures .ends, block-bound (now (c .before .before .before .args .text)), c .print-block .kept .1)
 
-slice-aggregate-print : tie.Need-slice-aggregate-print
-slice-aggregate-print c = search needs
+slice-aggregate-print-block : tie.Need-slice-aggregate-print-block
+slice-aggregate-print-block c = search needs
 
-print-requires : tie.Need-print-requires
-print-requires c κs = search needs
+print-block-requires : tie.Need-print-block-requires
+print-block-requires c κs = search needs
 
 array-share-prefix-block : tie.Need-array-share-prefix-block
 array-share-prefix-block c = room (c .before)
@@ -35,8 +35,8 @@ pub put-block-spec : {M : Type 1} → statement M
 put-block-spec =
     tie.close
     (tie.spec
-    slice-aggregate-print
-    print-requires
+    slice-aggregate-print-block
+    print-block-requires
     array-share-prefix-block
     slice-aggregate-write-all
     write-all-requires

@@ -5,22 +5,22 @@ use lib.Seq.{length-take-le}
 use lib.ListN.{length}
 use denote.Ref.{now}
 use Rattle.words.proofs.Laws.{all-below}
-use Rattle.listed.proofs.Sizes.{listing-bound}
+use Rattle.printed.proofs.Sizes.{listing-bound}
 use borrow.Author.Needs.{needs}
 use Rattle.listing.proofs.put_listing.Statement.{statement}
 use Rattle.listing.proofs.put_listing.Tie as tie
 
 -- every listing fits
-room : (c : tie.After-list) → c .list .result .0 ≤ length (c .list .last .1 .0)
+room : (c : tie.After-print-listing) → c .print-listing .result .0 ≤ length (c .print-listing .last .1 .0)
 room c =
     let b = now (c .before .before .before .args .block) in
-    omega (arith, c .list .ensures .ends, listing-bound b (all-below 256 b (λ i. omega (arith, c .before .before .shared-slice-known .given i))), c .list .kept .1)
+    omega (arith, c .print-listing .ensures .ends, listing-bound b (all-below 256 b (λ i. omega (arith, c .before .before .shared-slice-known .given i))), c .print-listing .kept .1)
 
-slice-aggregate-list : tie.Need-slice-aggregate-list
-slice-aggregate-list c = search needs
+slice-aggregate-print-listing : tie.Need-slice-aggregate-print-listing
+slice-aggregate-print-listing c = search needs
 
-list-requires : tie.Need-list-requires
-list-requires c κs = search needs
+print-listing-requires : tie.Need-print-listing-requires
+print-listing-requires c κs = search needs
 
 array-share-prefix-listing : tie.Need-array-share-prefix-listing
 array-share-prefix-listing c = room (c .before)
@@ -38,8 +38,8 @@ pub put-listing-spec : {M : Type 1} → statement M
 put-listing-spec =
     tie.close
     (tie.spec
-    slice-aggregate-list
-    list-requires
+    slice-aggregate-print-listing
+    print-listing-requires
     array-share-prefix-listing
     slice-aggregate-write-all
     write-all-requires

@@ -1,4 +1,5 @@
-use Rattle.record.specs.Judging.{within, wordsNeeded}
+use Rattle.record.specs.Judging.{wordsNeeded}
+use Rattle.words.specs.Scans.{within}
 use Prim.Native.Nat.{ℕ, _+_}
 use mathlib.Core.Bool.{Bool, _||_}
 use mathlib.Core.Path.{sym, ap, _∙_}

@@ -1,6 +1,8 @@
 use Rattle.record.proofs.Passed.{TotalRight, total-right}
-use Rattle.record.proofs.Scan.{part-scan, scan-same, zero-within, not-zero-most, not-card-most}
-use Rattle.record.specs.Judging.{wordWithin, isZero, cardWord, wrongTotal, firstNotZero, firstNotCard, judgeCards}
+use Rattle.record.proofs.Scan.{not-zero-most, not-card-most}
+use Rattle.words.proofs.Scans.{part-scan, scan-same, zero-within}
+use Rattle.record.specs.Judging.{cardWord, wrongTotal, firstNotZero, firstNotCard, judgeCards}
+use Rattle.words.specs.Scans.{wordWithin, isZero}
 use Rattle.words.specs.Words.{wordsOf}
 use denote.Ref.{now}
 use lib.Seq.{slice}

@@ -2,13 +2,13 @@ use Prim.Native.Nat.{ℕ, _*_}
 use lib.ListN.{length}
 use lib.Dec.{eqb}
 use mathlib.Core.Bool.{not}
-use Rattle.record.specs.Judging.{passing, isZero, wordWithin}
+use Rattle.words.specs.Scans.{passing, isZero, wordWithin}
 use Rattle.sheet.specs.Sheets.{zeros}
 use Rattle.sheet.proofs.Stores.{words-past}
 use mathlib.Core.Path.{ap, ap₂, _∙_}
 use denote.Ref.{now}
 use native.Mathlib.Omega.{arith}
-use Rattle.record.proofs.Scan.{scan-same, zero-within}
+use Rattle.words.proofs.Scans.{scan-same, zero-within}
 use Rattle.words.proofs.Laws.{length-wordsOf}
 use borrow.Author.Needs.{needs}
 use Rattle.sheet.proofs.more_stands.Statement.{statement}

@@ -1,0 +1,17 @@
+-- What the programs that convert print: the text of a block, or the block of a text; or, as the listing has it, the line of a refusal.
+use Prim.Native.Nat.{ℕ}
+use mathlib.Core.List.{List}
+use Rattle.words.specs.Words.{bytesOf, framed}
+use Rattle.block.specs.Judging.{judged}
+use Rattle.block.specs.Records.{recordsOf}
+use Rattle.write_lines.specs.Text.{textOf}
+use Rattle.read_text.specs.Block.{readText}
+use Rattle.report.specs.Refusal.{orRefusal}
+
+-- "A block's text is its records' lines in order"
+unfoldable pub linesPrinted : List ℕ → List ℕ
+linesPrinted block = orRefusal (λ _. textOf (recordsOf block)) (judged block)
+
+-- the record words of the text, length word and checksum around them, as bytes
+unfoldable pub blockPrinted : List ℕ → List ℕ
+blockPrinted text = orRefusal (λ ws. bytesOf (framed ws)) (readText text)

@@ -1,0 +1,118 @@
+// What the programs print: the listing of a block, its lines, or the block of a text; or the line of a refusal.
+use block::Judged;
+use block::Place;
+use units::Bytes;
+use units::Words;
+ghost use mathlib.Core.List.{[], _∷_};
+ghost use Prim.Native.Nat.{_≤_, _<_};
+ghost use lib.ListN.{length};
+ghost use Rattle.words.specs.Words.{wordsOf};
+ghost use Rattle.words.specs.Writing.{Room, Put};
+ghost use Rattle.record.specs.Rules.{RecordOk};
+ghost use Rattle.block.specs.Judging.{Accepted};
+ghost use Rattle.block.specs.Records.{recordsOf};
+ghost use Rattle.prefix.specs.Table.{prefixOf};
+ghost use Rattle.report.specs.Text.{behind};
+ghost use Rattle.printed.specs.Listing.{signedOf, lettersOf, rowOf, rowsOf, listingOf};
+ghost use Rattle.printed.specs.Printed.{linesPrinted, blockPrinted};
+
+// Puts the number that a word stands for in two's complement.
+fn write_signed(w: u16, out: &mut [u8], at: Bytes) -> Bytes
+    requires { ⌜ Room (now out) (at .0) (signedOf w) ⌝ }
+    ensures { λ r. ⌜ Put (now (out .entry)) (at .0) (signedOf w) (now (out .exit)) (r .0) ⌝ }
+{
+    let value = w as u32;
+    if value < 32768 {
+        return report::write_number(value, out, at);
+    }
+    let to = words::write_bytes(b"-", out, at);
+    report::write_number(65536 - value, out, to)
+}
+
+// Puts the end of a record's line: the instrument and its prefix.
+fn write_instrument(w: u16, out: &mut [u8], at: Bytes) -> Bytes
+    requires { ⌜ Room (now out) (at .0) (behind (signedOf w ∷ (lettersOf (prefixOf w) ∷ []))) ⌝ }
+    ensures { λ r. ⌜ Put (now (out .entry)) (at .0) (behind (signedOf w ∷ (lettersOf (prefixOf w) ∷ []))) (now (out .exit)) (r .0) ⌝ }
+{
+    let letters = prefix::prefix_of(w);
+    let to = words::write_bytes(b" ", out, at);
+    let to = write_signed(w, out, to);
+    words::write_bytes(&[b' ', letters.0, letters.1, letters.2, b'\n'], out, to)
+}
+
+// Puts the line of a good record.
+fn write_row(number: u32, before: Words, whole: &[u8], out: &mut [u8], at: Bytes) -> Bytes
+    requires { ⌜ (before .0 < 8000) × RecordOk (wordsOf (now whole)) × (length (wordsOf (now whole)) ≤ 8000) × Room (now out) (at .0) (rowOf number (before .0) (wordsOf (now whole))) ⌝ }
+    ensures { λ r. ⌜ Put (now (out .entry)) (at .0) (rowOf number (before .0) (wordsOf (now (whole .entry)))) (now (out .exit)) (r .0) ⌝ }
+{
+    let position = (before.0 + 1) as u32;
+    let kind = words::word_at(whole, Words(1)) as u32;
+    let count = words::count(whole).0 as u32;
+    let lines = record::line_count(whole).0 as u32;
+    let instrument = words::word_at(whole, Words(2));
+    let to = report::write_number(number, out, at);
+    let to = report::write_spaced(&[position, kind, count, lines], out, to);
+    write_instrument(instrument, out, to)
+}
+
+// Puts the lines of an accepted block's records.
+fn write_rows(block: &[u8], out: &mut [u8]) -> Bytes
+    requires { ⌜ Accepted (now block) × Room (now out) 0 (rowsOf 1 1 (recordsOf (now block))) ⌝ }
+    ensures { λ r. ⌜ Put (now (out .entry)) 0 (rowsOf 1 1 (recordsOf (now (block .entry)))) (now (out .exit)) (r .0) ⌝ }
+{
+    let mut at = 1;
+    let mut number: u32 = 1;
+    let mut to = Bytes(0);
+    loop {
+        match block::step(block, Words(at)) {
+            Place::NoMore => return to,
+            Place::Record(place, size) => {
+                let next = at + size.0;
+                to = write_row(
+                    number,
+                    place,
+                    words::part(block, place, Words(next)),
+                    out,
+                    to,
+                );
+                at = next;
+                number += 1;
+            }
+        }
+    }
+}
+
+// Puts the listing of a block, which is never longer than 32,768 bytes.
+pub fn print_listing(block: &[u8], out: &mut [u8]) -> Bytes
+    requires { ⌜ 32768 ≤ length (now out) ⌝ }
+    ensures { λ r. ⌜ Put (now (out .entry)) 0 (listingOf (now (block .entry))) (now (out .exit)) (r .0) ⌝ }
+{
+    match block::judge(block) {
+        Judged::Records(_) => write_rows(block, out),
+        Judged::Refused(r) => report::write_refusal(block::refusal_numbers(r), out, Bytes(0)),
+    }
+}
+
+// Writes the lines of a block, or the line of its refusal, into a text that has room for any.
+pub fn print_lines(block: &[u8], out: &mut [u8]) -> Bytes
+    requires { ⌜ 55971 ≤ length (now out) ⌝ }
+    ensures { λ r. ⌜ Put (now (out .entry)) 0 (linesPrinted (now (block .entry))) (now (out .exit)) (r .0) ⌝ }
+{
+    match block::judge(block) {
+        Judged::Records(_) => write_lines::write_records(block, out),
+        Judged::Refused(r) => report::write_refusal(block::refusal_numbers(r), out, Bytes(0)),
+    }
+}
+
+// Writes the block of a text, or the line of its refusal, into a buffer that has room for any.
+pub fn print_block(text: &[u8], out: &mut [u8]) -> Bytes
+    requires { ⌜ 16000 ≤ length (now out) ⌝ }
+    ensures { λ r. ⌜ Put (now (out .entry)) 0 (blockPrinted (now (text .entry))) (now (out .exit)) (r .0) ⌝ }
+{
+    let told = read_text::numbers(read_text::to_block(text, out));
+    if told.n == 0 {
+        let size = told.a as usize;
+        return Bytes(size);
+    }
+    report::write_refusal(told, out, Bytes(0))
+}

@@ -1,0 +1,33 @@
+-- Fields that must be blank or 0, one after the other.
+use mathlib.Core.Path.{_≡_, sym}
+use mathlib.Core.Bool.{_||_}
+use mathlib.Core.List.{List}
+use Prim.Native.Nat.{ℕ, suc, _+_, _-_, _*_, _<_}
+use native.Mathlib.Numerals.{add-one}
+use native.Mathlib.Omega.{arith}
+use lib.Dec.{eqb, ltb}
+use Rattle.units.specs.declared.Answer.{Answer}
+use Rattle.units.specs.Answers.{passed, refused}
+use Rattle.read_columns.specs.Columns.{inkAfter, blankField, zeroField, zeros}
+
+-- the first column that is not blank behind so many columns tells whether the field is
+pub blank-is : (l : List ℕ) (k at c : ℕ) → at ≡ 6 * k → c ≡ inkAfter at l → blankField l k ≡ (eqb c 0 || ltb (at + 6) c)
+unfolding blankField
+blank-is l k at c e ink = rw (sym e, sym ink)
+
+module _ (num : ℕ) (l : List ℕ) (k end : ℕ) where
+  pub zeros-done : end - k ≡ 0 → zeros num l k (end - k) ≡ passed tt
+  unfolding zeros
+  zeros-done e = rw e
+
+  module _ (h : k < end) where
+    left : end - k ≡ suc (end - (k + 1))
+    left = omega arith
+
+    pub zeros-on : passed tt ≡ zeroField num l k → zeros num l k (end - k) ≡ zeros num l (k + 1) (end - (k + 1))
+    unfolding zeros
+    zeros-on e = rw (left, sym e, add-one)
+
+    pub zeros-bad : (r : Answer) → refused r ≡ zeroField num l k → zeros num l k (end - k) ≡ refused r
+    unfolding zeros
+    zeros-bad r e = rw (left, sym e)

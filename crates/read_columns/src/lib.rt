@@ -1,0 +1,187 @@
+// What stands in the columns of a line of text.
+use field::Number;
+use units::Answer;
+use units::Bytes;
+use units::Lines;
+use units::Words;
+ghost use mathlib.Core.Path.{_≡_};
+ghost use mathlib.Core.List.{_++_};
+ghost use Prim.Native.Nat.{_+_, _^_, _≤_, _<_};
+ghost use lib.ListN.{length, take};
+ghost use Rattle.units.specs.Answers.{answer, passed, onward, Packs};
+ghost use Rattle.words.specs.Scans.{plainIn};
+ghost use Rattle.read_columns.specs.Columns.{badColumn, inkAfter, blankAfter, blankField, columnOf, numbers, zeroField, zeros};
+ghost use Rattle.read_columns.specs.Cases.{flawOf, checkedOf};
+
+// Why a text is refused: the line and, where it is not always the same, the column, both counted from 1.
+pub enum Flaw {
+    Byte(Lines, Bytes),
+    NoRecord,
+    Field(Lines, Bytes),
+    Kind(Lines),
+    Count(Lines),
+    Ends(Lines),
+    NotBlank(Lines, Bytes),
+    Range(Lines, Bytes),
+    Much(Lines),
+    Long,
+}
+
+// What is found of some columns.
+pub enum Checked {
+    Good,
+    Flawed(Flaw),
+}
+
+// The first column that is past 120 or holds a byte other than 32 to 126, of a line that begins with so many that are; 0 where there is none.
+pub fn bad_column(line: &[u8], plain: Bytes) -> Bytes
+    requires { ⌜ plain .0 ≡ plainIn (now line) ⌝ }
+    ensures { λ r. ⌜ r .0 ≡ badColumn 1 (now (line .entry)) ⌝ }
+{
+    let size = line.len();
+    let good = plain.0;
+    if 120 <= good {
+        if 120 < size {
+            return Bytes(121);
+        }
+        return Bytes(0);
+    }
+    if good < size {
+        let column = good + 1;
+        return Bytes(column);
+    }
+    Bytes(0)
+}
+
+// Of the columns after the first `from`, the first that is not blank; 0 where there is none.
+pub fn ink_after(line: &[u8], from: Bytes) -> Bytes
+    ensures { λ r. ⌜ r .0 ≡ inkAfter (from .0) (now (line .entry)) ⌝ }
+{
+    let mut i = from.0;
+    while i < line.len() {
+        let column = i + 1;
+        if line[i] != b' ' {
+            return Bytes(column);
+        }
+        i = column;
+    }
+    Bytes(0)
+}
+
+// The columns after the first `from` must be blank.
+pub fn blank_after(line: &[u8], num: Lines, from: Bytes) -> Checked
+    ensures { λ r. ⌜ checkedOf tt r ≡ blankAfter (num .0) (now (line .entry)) (from .0) ⌝ }
+{
+    let column = ink_after(line, from);
+    if column.0 == 0 {
+        return Checked::Good;
+    }
+    Checked::Flawed(Flaw::NotBlank(num, column))
+}
+
+// The first column of the field with k fields before it.
+pub fn column_of(k: Words) -> Bytes
+    requires { ⌜ k .0 ≤ 20 ⌝ }
+    ensures { λ r. ⌜ r .0 ≡ columnOf (k .0) ⌝ }
+{
+    let before = units::columns_of_fields(k).0;
+    let column = before + 1;
+    Bytes(column)
+}
+
+// Reads `count` number fields, with `from` fields before them, into the same places of the row.
+pub fn read_numbers(line: &[u8], num: Lines, from: Words, count: Words, row: &mut [u16]) -> Checked
+    requires { ⌜ (from .0 + count .0 ≤ 20) × (length (now row) ≡ 20) ⌝ }
+    ensures { λ r. ⌜ checkedOf (take (from .0 + count .0) (now (row .exit))) r ≡ onward (numbers (num .0) (now (line .entry)) (from .0) (count .0)) (λ ws. passed (take (from .0) (now (row .entry)) ++ ws)) ⌝ }
+{
+    let end = from.0 + count.0;
+    let mut k = from.0;
+    while k < end {
+        match field::read_field(line, units::columns_of_fields(Words(k))) {
+            Number::Bad => return Checked::Flawed(Flaw::Field(num, column_of(Words(k)))),
+            Number::Word(w) => row[k] = w,
+        }
+        k += 1;
+    }
+    Checked::Good
+}
+
+// The field with k fields before it is blank.
+fn blank_field(line: &[u8], k: Words) -> bool
+    requires { ⌜ k .0 ≤ 20 ⌝ }
+    ensures { λ r. ⌜ r ≡ blankField (now (line .entry)) (k .0) ⌝ }
+{
+    let before = units::columns_of_fields(k);
+    let last = before.0 + 6;
+    let column = ink_after(line, before).0;
+    column == 0 || last < column
+}
+
+// A field that must be 0, or blank, which means 0.
+fn zero_field(line: &[u8], num: Lines, k: Words) -> Checked
+    requires { ⌜ k .0 ≤ 20 ⌝ }
+    ensures { λ r. ⌜ checkedOf tt r ≡ zeroField (num .0) (now (line .entry)) (k .0) ⌝ }
+{
+    if blank_field(line, k) {
+        return Checked::Good;
+    }
+    match field::read_field(line, units::columns_of_fields(k)) {
+        Number::Bad => Checked::Flawed(Flaw::Field(num, column_of(k))),
+        Number::Word(w) => {
+            if w == 0 {
+                return Checked::Good;
+            }
+            Checked::Flawed(Flaw::NotBlank(num, column_of(k)))
+        }
+    }
+}
+
+// So many such fields, with `from` fields before them.
+pub fn zero_fields(line: &[u8], num: Lines, from: Words, count: Words) -> Checked
+    requires { ⌜ from .0 + count .0 ≤ 20 ⌝ }
+    ensures { λ r. ⌜ checkedOf tt r ≡ zeros (num .0) (now (line .entry)) (from .0) (count .0) ⌝ }
+{
+    let end = from.0 + count.0;
+    let mut k = from.0;
+    while k < end {
+        match zero_field(line, num, Words(k)) {
+            Checked::Flawed(f) => return Checked::Flawed(f),
+            Checked::Good => k += 1,
+        }
+    }
+    Checked::Good
+}
+
+// The four numbers of a refusal.
+pub fn numbers(f: Flaw) -> Answer
+    requires { ⌜ Packs (flawOf f) ⌝ }
+    ensures { λ r. ⌜ r ≡ flawOf f ⌝ }
+{
+    match f {
+        Flaw::Byte(line, column) => spot(20, line, column),
+        Flaw::NoRecord => spot(21, Lines(0), Bytes(0)),
+        Flaw::Field(line, column) => spot(22, line, column),
+        Flaw::Kind(line) => spot(23, line, Bytes(7)),
+        Flaw::Count(line) => spot(24, line, Bytes(1)),
+        Flaw::Ends(line) => spot(25, line, Bytes(1)),
+        Flaw::NotBlank(line, column) => spot(26, line, column),
+        Flaw::Range(line, column) => spot(27, line, column),
+        Flaw::Much(line) => spot(28, line, Bytes(1)),
+        Flaw::Long => spot(30, Lines(0), Bytes(0)),
+    }
+}
+
+// Refusal n at a line and a column.
+fn spot(n: u8, line: Lines, column: Bytes) -> Answer
+    requires { ⌜ (line .0 < 2 ^ 24) × (column .0 < 2 ^ 16) ⌝ }
+    ensures { λ r. ⌜ r ≡ answer n (line .0) (column .0) 0 ⌝ }
+{
+    let a = line.0;
+    let b = column.0;
+    Answer {
+        n,
+        a: a as u32,
+        b: b as u16,
+        c: 0,
+    }
+}

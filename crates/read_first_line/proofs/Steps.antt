@@ -1,0 +1,62 @@
+-- Reading step by step: what one test after the other makes of a line.
+use mathlib.Core.Path.{_≡_, sym, ap, _∙_}
+use mathlib.Core.List.{List, _++_}
+use Prim.Native.Nat.{ℕ}
+use Rattle.units.specs.declared.Answer.{Answer}
+use Rattle.units.specs.Answers.{Verdict, passed, refused, onward}
+use Rattle.units.proofs.Verdicts.{never-passed}
+use Rattle.read_columns.specs.declared.Flaw.{Flaw}
+use Rattle.read_columns.specs.declared.Checked.{Checked}
+use Rattle.read_columns.specs.declared.Checked.the-variants.{Good, Flawed}
+use Rattle.read_columns.specs.Cases.{flawOf, checkedOf}
+use Rattle.read_first_line.specs.Heading.{Shape, Read}
+use Rattle.read_first_line.specs.State.{Stand, Stepped}
+use Rattle.read_first_line.specs.declared.Step.{Step}
+use Rattle.read_first_line.specs.declared.Step.the-variants.{Refused}
+
+-- the first refusal stands, and ends the line
+pub stops : {so : ℕ} {b b′ : List ℕ} (v : Verdict Read) (f : Flaw) → refused (flawOf f) ≡ v → Stepped so b v b′ (Refused f)
+stops v f e = record { is = rw (sym e); near = tt }
+
+-- a step for what is the same verdict
+pub same-step : {so : ℕ} {b b′ : List ℕ} {r : Step} (v w : Verdict Read) → v ≡ w → Stepped so b v b′ r → Stepped so b w b′ r
+same-step v w e s = rw (sym e) s
+
+-- what a check says, by what it returned
+pub told : {A : Type 0} (x : A) {r r′ : Checked} {v : Verdict A} → r ≡ r′ → checkedOf x r ≡ v → checkedOf x r′ ≡ v
+told x e said = ap (checkedOf x) (sym e) ∙ said
+
+-- a check comes first: where it refuses, the line ends, and else it goes on
+module _ {A : Type 0} {so : ℕ} {b b′ : List ℕ} (v : Verdict A) (next : A → Verdict Read) (x : A) {r : Checked} where
+  pub flaw-ends : {f : Flaw} → r ≡ Flawed f → checkedOf x r ≡ v → Stepped so b (onward v next) b′ (Refused f)
+  flaw-ends e said = record { is = rw (sym (told x e said)); near = tt }
+
+  pub good-goes : {s : Step} → r ≡ Good → checkedOf x r ≡ v → Stepped so b (next x) b′ s → Stepped so b (onward v next) b′ s
+  good-goes e said s = rw (sym (told x e said)) s
+
+-- a check that only passes or refuses
+pub checked-on : {A : Type 0} (x : A) (r : Checked) (v : Verdict (Unit {0})) → checkedOf tt r ≡ v → checkedOf x r ≡ onward v (λ _. passed x)
+checked-on x Good v e = rw (sym e)
+checked-on x (Flawed f) v e = rw (sym e)
+
+-- the fields that are read behind those of `head`, and then the rest
+module _ {B : Type 0} (head : List ℕ) (next : List ℕ → Verdict B) where
+  read-stop : (v : Verdict (List ℕ)) (r : Answer) → refused r ≡ onward v (λ ws. passed (head ++ ws)) → refused r ≡ onward v (λ ws. next (head ++ ws))
+  read-stop (passed ws) r e = absurd (never-passed e)
+  read-stop (refused a) r e = cc
+
+  read-go : (v : Verdict (List ℕ)) (row : List ℕ) → passed row ≡ onward v (λ ws. passed (head ++ ws)) → next row ≡ onward v (λ ws. next (head ++ ws))
+  read-go (passed ws) row e = ap next cc
+  read-go (refused a) row e = absurd (never-passed (sym e))
+
+  module _ (v : Verdict (List ℕ)) (row : List ℕ) {r : Checked} where
+    pub flaw-read : {f : Flaw} → r ≡ Flawed f → checkedOf row r ≡ onward v (λ ws. passed (head ++ ws)) → refused (flawOf f) ≡ onward v (λ ws. next (head ++ ws))
+    flaw-read {f} e said = read-stop v (flawOf f) (told row e said)
+
+    pub good-read : r ≡ Good → checkedOf row r ≡ onward v (λ ws. passed (head ++ ws)) → next row ≡ onward v (λ ws. next (head ++ ws))
+    good-read e said = read-go v row (told row e said)
+
+-- where a line is accepted: what is to come, the words so far and the block
+pub passed-stand : {rest rest′ : List Shape} {so so′ : ℕ} {b b′ : List ℕ} → rest ≡ rest′ → so ≡ so′ → b ≡ b′ →
+    _≡_ {A = Verdict Stand} (passed (record { rest = rest; so = so; block = b })) (passed (record { rest = rest′; so = so′; block = b′ }))
+passed-stand e f g = rw (e, f, g)

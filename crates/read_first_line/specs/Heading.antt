@@ -1,0 +1,91 @@
+-- Document 01, "Read form" and "Order for text": a record's first line, and what it says is to come.
+use Prim.Native.Nat.{ℕ, _+_, _-_, min}
+use mathlib.Core.List.{List, _∷_, _++_, map}
+use mathlib.Core.Bool.{not, _||_}
+use lib.Dec.{ltb, eqb}
+use lib.ListN.{length, drop, replicate}
+use Rattle.units.specs.Choice.{if_then_else_}
+use Rattle.units.specs.Units.{wordsOfCards, columnsOfFields, Line}
+use Rattle.units.specs.Answers.{answer, Verdict, passed, refused, onward}
+use Rattle.words.specs.Words.{word}
+use Rattle.record.specs.Judging.{underLeast, wordsNeeded}
+use Rattle.record.specs.Lines.{linesNeeded}
+use Rattle.line_plan.specs.Plan.{dataPlan}
+use Rattle.read_columns.specs.Columns.{blankAfter, columnOf, numbers, zeros}
+
+-- a line still to come of a record: a card, or so many number fields
+pub data Shape : Type 0 where
+  card : Shape
+  fields : ℕ → Shape
+
+-- what an accepted line gives: its words, and the lines of its record still to come
+pub record Read : Type 0 where
+  pub words : List ℕ
+  pub rest : List Shape
+
+-- a line that is accepted
+abbrev pub gives : List ℕ → List Shape → Verdict Read
+gives ws rest = passed (record { words = ws; rest = rest })
+
+-- "Catalogue and Header give 24, then 28": `so` record words stand before, `head` has the fields before those that must be zero, and `kind` is the binary kind
+unfoldable pub cardsLine : ℕ → ℕ → ℕ → List ℕ → Verdict Read
+cardsLine num so kind head =
+    if ltb (word head 1) 1 || ltb 199 (word head 1) then refused (answer 24 num 1 0)
+    else if ltb 7998 (so + wordsOfCards (word head 1)) then refused (answer 28 num 1 0)
+    else gives (wordsOfCards (word head 1) ∷ (kind ∷ drop 2 head) ++ replicate (40 - length head) 0) (replicate (word head 1 - 1) card)
+
+-- row 27: "Data counts out of range: line, first column of the first such field"
+unfoldable pub countsIn : ℕ → List ℕ → Verdict (List ℕ)
+countsIn num r =
+    if underLeast 16 (word r 13) then refused (answer 27 num (columnOf 12) 0)
+    else if underLeast 0 (word r 14) then refused (answer 27 num (columnOf 13) 0)
+    else if underLeast 0 (word r 15) then refused (answer 27 num (columnOf 14) 0)
+    else if underLeast 0 (word r 16) then refused (answer 27 num (columnOf 15) 0)
+    else passed r
+
+-- "Data gives 28, then 24"
+unfoldable pub planLine : ℕ → ℕ → List ℕ → Verdict Read
+planLine num so head =
+    let needed = wordsNeeded (word head 13) (word head 14) (word head 15) (word head 16) in
+    if ltb 7998 (so + needed) then refused (answer 28 num 1 0)
+    else if not (eqb (word head 1) (linesNeeded (word head 13) (word head 14) (word head 15) (word head 16))) then refused (answer 24 num 1 0)
+    else gives (needed ∷ (1002 ∷ drop 2 head)) (map fields (drop 1 (dataPlan head)))
+
+-- "the further fields its kind always has": a Catalogue's 13 to 20 are blank or 0
+unfoldable pub catalogueLine : ℕ → ℕ → Line → List ℕ → Verdict Read
+catalogueLine num so l head = onward (zeros num l 12 8) (λ _. cardsLine num so 2001 head)
+
+-- a Header's 13 to 15 are free, and its 16 to 20 blank or 0
+unfoldable pub headerFields : ℕ → Line → List ℕ → Verdict (List ℕ)
+headerFields num l head = onward (numbers num l 12 3) (λ more. onward (zeros num l 15 5) (λ _. passed (head ++ more)))
+
+-- a Header, by 22 or 26, then 24 and 28
+unfoldable pub headerLine : ℕ → ℕ → Line → List ℕ → Verdict Read
+headerLine num so l head = onward (headerFields num l head) (λ r. cardsLine num so 3002 r)
+
+-- "Data: 13 to 16", then 27
+unfoldable pub countFields : ℕ → Line → List ℕ → Verdict (List ℕ)
+countFields num l head = onward (numbers num l 12 4) (λ counts. countsIn num (head ++ counts))
+
+-- "fields 17 on, then blank columns by 26"
+unfoldable pub prologueFields : ℕ → Line → List ℕ → Verdict (List ℕ)
+prologueFields num l r =
+    let used = min (word r 13) 20 in
+    onward (numbers num l 16 (used - 16)) (λ more. onward (blankAfter num l (columnsOfFields used)) (λ _. passed (r ++ more)))
+
+-- "Data: 27, fields 17 on, then blank columns by 26. Data gives 28, then 24"
+unfoldable pub dataLine : ℕ → ℕ → Line → List ℕ → Verdict Read
+dataLine num so l head =
+    onward (countFields num l head) (λ r. onward (prologueFields num l r) (λ first. planLine num so first))
+
+-- row 23: the value of field 2 is none of 2101, 3101, 1101
+unfoldable pub kindLine : ℕ → ℕ → Line → List ℕ → Verdict Read
+kindLine num so l head =
+    if eqb (word head 2) 2101 then catalogueLine num so l head
+    else if eqb (word head 2) 3101 then headerLine num so l head
+    else if eqb (word head 2) 1101 then dataLine num so l head
+    else refused (answer 23 num 7 0)
+
+-- after 20, which `lineStep` tests: "fields 1 to 12; 23; the further fields its kind always has"
+unfoldable pub firstLine : ℕ → ℕ → Line → Verdict Read
+firstLine num so l = onward (numbers num l 0 12) (λ head. kindLine num so l head)

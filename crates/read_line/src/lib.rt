@@ -1,0 +1,224 @@
+// Reads a line of a text, by what is to come of a record, and puts its words into a block as far as that has room.
+use read_columns::Checked;
+use read_columns::Flaw;
+use read_first_line::Plan;
+use read_first_line::Step;
+use units::Bytes;
+use units::Lines;
+use units::Words;
+ghost use mathlib.Core.Path.{_≡_};
+ghost use mathlib.Core.List.{[], _∷_};
+ghost use Prim.Native.Nat.{_≤_, _<_, _^_, min};
+ghost use lib.ListN.{length, take};
+ghost use Rattle.words.specs.Words.{wordsOf};
+ghost use Rattle.words.specs.Scans.{plainIn};
+ghost use Rattle.line_plan.specs.Plan.{part, times};
+ghost use Rattle.field.specs.Reading.{columns};
+ghost use Rattle.read_columns.specs.Cases.{checkedOf};
+ghost use Rattle.read_first_line.specs.Heading.{card, fields};
+ghost use Rattle.read_first_line.specs.State.{toCome, Stepped, put};
+ghost use Rattle.read_line.specs.Reading.{rowFields, inState, lineStep};
+ghost use Rattle.read_line.specs.State.{Settled};
+
+// So many of `count` parts of this width take lines: all, or none where they have no fields.
+fn parts(count: usize, width: Words) -> usize
+    ensures { λ r. ⌜ (r ≤ count) × (times r (part (width .0)) ≡ times count (part (width .0))) × (0 < r → 0 < width .0) ⌝ }
+{
+    if width.0 == 0 {
+        return 0;
+    }
+    count
+}
+
+// Where the present part is used up, the next one that has fields.
+pub fn settled(p: Plan) -> Plan
+    ensures { λ r. ⌜ (toCome r ≡ toCome p) × Settled r ⌝ }
+{
+    let jpar = p.jpar.0;
+    if 0 < p.left.0 {
+        return p;
+    }
+    let singles = parts(p.singles, Words(jpar));
+    if 0 < singles {
+        let others = singles - 1;
+        let mpar = p.mpar.0;
+        let cards = p.cards.0;
+        return Plan {
+            cards: Lines(cards),
+            left: Words(jpar),
+            singles: others,
+            jpar: Words(jpar),
+            rows: p.rows,
+            mpar: Words(mpar),
+        };
+    }
+    next_row(p)
+}
+
+// The same where no 1-D part has fields.
+fn next_row(p: Plan) -> Plan
+    requires { ⌜ (p .left .0 ≡ 0) × (times (p .singles) (part (p .jpar .0)) ≡ []) ⌝ }
+    ensures { λ r. ⌜ (toCome r ≡ toCome p) × Settled r ⌝ }
+{
+    let mpar = p.mpar.0;
+    let rows = parts(p.rows, Words(mpar));
+    if 0 < rows {
+        let others = rows - 1;
+        let cards = p.cards.0;
+        return Plan {
+            cards: Lines(cards),
+            left: Words(mpar),
+            singles: 0,
+            jpar: Words(0),
+            rows: others,
+            mpar: Words(mpar),
+        };
+    }
+    p
+}
+
+// Puts the 80 columns of a card: those that the line lacks are blank.
+fn put_card(line: &[u8], block: &mut [u8], so: Words)
+    requires { ⌜ so .0 < 2 ^ 22 ⌝ }
+    ensures { λ _. ⌜ now (block .exit) ≡ put (so .0) (now (block .entry)) (wordsOf (columns 80 (now (line .entry)) 0)) ⌝ }
+{
+    let first = so.0 + 1;
+    let at = units::bytes_of_words(Words(first)).0;
+    if 80 <= line.len() {
+        read_store::keep_bytes(&line[..80], block, Bytes(at));
+        return;
+    }
+    let size = line.len();
+    let left = 80 - size;
+    let next = at + size;
+    read_store::keep_bytes(line, block, Bytes(at));
+    read_store::keep_filling(b' ', Bytes(left), block, Bytes(next));
+}
+
+// A card.
+fn card_line(p: Plan, num: Lines, so: Words, line: &[u8], block: &mut [u8]) -> Step
+    requires { ⌜ (0 < p .cards .0) × (so .0 < 2 ^ 22) ⌝ }
+    ensures { λ r. ⌜ Stepped (so .0) (now (block .entry)) (inState (num .0) (so .0) (toCome p) (now (line .entry))) (now (block .exit)) r ⌝ }
+{
+    let behind = so.0 + 40;
+    let rest = one_card_less(p);
+    match read_columns::blank_after(line, num, Bytes(80)) {
+        Checked::Flawed(f) => Step::Refused(f),
+        Checked::Good => {
+            put_card(line, block, so);
+            Step::Next(rest, Words(behind))
+        }
+    }
+}
+
+// What is to come after a card.
+fn one_card_less(p: Plan) -> Plan
+    requires { ⌜ 0 < p .cards .0 ⌝ }
+    ensures { λ r. ⌜ toCome p ≡ card ∷ toCome r ⌝ }
+{
+    let cards = p.cards.0 - 1;
+    let left = p.left.0;
+    let jpar = p.jpar.0;
+    let mpar = p.mpar.0;
+    Plan {
+        cards: Lines(cards),
+        left: Words(left),
+        singles: p.singles,
+        jpar: Words(jpar),
+        rows: p.rows,
+        mpar: Words(mpar),
+    }
+}
+
+// The fields of a later line of a Data record, and nothing behind them.
+fn row_fields(num: Lines, count: Words, line: &[u8], row: &mut [u16]) -> Checked
+    requires { ⌜ (count .0 ≤ 20) × (length (now row) ≡ 20) ⌝ }
+    ensures { λ r. ⌜ checkedOf (take (count .0) (now (row .exit))) r ≡ rowFields (num .0) (now (line .entry)) (count .0) ⌝ }
+{
+    match read_columns::read_numbers(line, num, Words(0), count, row) {
+        Checked::Flawed(f) => Checked::Flawed(f),
+        Checked::Good => read_columns::blank_after(line, num, units::columns_of_fields(count)),
+    }
+}
+
+// A later line of a Data record.
+fn fields_line(
+    p: Plan,
+    num: Lines,
+    so: Words,
+    line: &[u8],
+    row: &mut [u16],
+    block: &mut [u8],
+) -> Step
+    requires { ⌜ (p .cards .0 ≡ 0) × (0 < p .left .0) × (length (now row) ≡ 20) × (so .0 < 2 ^ 22) ⌝ }
+    ensures { λ r. ⌜ Stepped (so .0) (now (block .entry)) (inState (num .0) (so .0) (toCome p) (now (line .entry))) (now (block .exit)) r ⌝ }
+{
+    let left = p.left.0;
+    let count = line_plan::on_line(Words(left));
+    let first = so.0 + 1;
+    let behind = so.0 + count.0;
+    let rest = one_line_less(p, count);
+    match row_fields(num, count, line, row) {
+        Checked::Flawed(f) => Step::Refused(f),
+        Checked::Good => {
+            read_store::keep_words(row, Words(0), count, block, Words(first));
+            Step::Next(rest, Words(behind))
+        }
+    }
+}
+
+// What is to come after a line of the present part.
+fn one_line_less(p: Plan, count: Words) -> Plan
+    requires { ⌜ (p .cards .0 ≡ 0) × (0 < p .left .0) × (count .0 ≡ min (p .left .0) 20) ⌝ }
+    ensures { λ r. ⌜ toCome p ≡ fields (count .0) ∷ toCome r ⌝ }
+{
+    let left = p.left.0 - count.0;
+    let jpar = p.jpar.0;
+    let mpar = p.mpar.0;
+    Plan {
+        cards: Lines(0),
+        left: Words(left),
+        singles: p.singles,
+        jpar: Words(jpar),
+        rows: p.rows,
+        mpar: Words(mpar),
+    }
+}
+
+// A line where a record may begin: a blank one, or a record's first.
+fn open_line(p: Plan, num: Lines, so: Words, line: &[u8], row: &mut [u16], block: &mut [u8]) -> Step
+    requires { ⌜ (toCome p ≡ []) × (length (now row) ≡ 20) × (so .0 < 2 ^ 22) ⌝ }
+    ensures { λ r. ⌜ Stepped (so .0) (now (block .entry)) (inState (num .0) (so .0) [] (now (line .entry))) (now (block .exit)) r ⌝ }
+{
+    if read_columns::ink_after(line, Bytes(0)).0 == 0 {
+        return Step::Next(p, so);
+    }
+    read_first_line::first_line(num, so, line, row, block)
+}
+
+// Any line, which begins with so many plain bytes.
+pub fn read_line(
+    plan: Plan,
+    num: Lines,
+    so: Words,
+    line: &[u8],
+    plain: Bytes,
+    row: &mut [u16],
+    block: &mut [u8],
+) -> Step
+    requires { ⌜ (length (now row) ≡ 20) × (so .0 < 2 ^ 22) × (plain .0 ≡ plainIn (now line)) ⌝ }
+    ensures { λ r. ⌜ Stepped (so .0) (now (block .entry)) (lineStep (num .0) (so .0) (toCome plan) (now (line .entry))) (now (block .exit)) r ⌝ }
+{
+    let column = read_columns::bad_column(line, plain);
+    if 0 < column.0 {
+        return Step::Refused(Flaw::Byte(num, column));
+    }
+    let p = settled(plan);
+    if 0 < p.cards.0 {
+        return card_line(p, num, so, line, block);
+    }
+    if 0 < p.left.0 {
+        return fields_line(p, num, so, line, row, block);
+    }
+    open_line(p, num, so, line, row, block)
+}

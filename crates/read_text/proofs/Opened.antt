@@ -1,0 +1,316 @@
+-- What an accepted line gives: what it spells, and the lines of its record still to come.
+use mathlib.Core.Path.{_≡_, refl, ap, _∙_}
+use mathlib.Core.Bool.{not, _||_}
+use mathlib.Core.List.{List, [], _∷_, _++_, map}
+use Prim.Native.Nat.{ℕ, zero, suc, _+_, _-_, _*_, _^_, _≤_, _<_, min}
+use native.Mathlib.Nat.{add-zero}
+use native.Mathlib.Omega.{arith}
+use borrow.Author.Tests.{ltb-false, eqb-true, not-false}
+use lib.Dec.{ltb, eqb}
+use lib.ListN.{length, getD, drop, replicate, length-append, length-drop, length-replicate, List·getD-append}
+use Rattle.units.specs.Answers.{answer, refused}
+use Rattle.units.proofs.Verdicts.{or-off}
+use Rattle.words.specs.Words.{word}
+use Rattle.record.specs.Judging.{underLeast, wordsNeeded}
+use Rattle.record.specs.Lines.{linesNeeded}
+use Rattle.record.specs.Rules.{Least}
+use Rattle.record.proofs.Passed.{at-least}
+use Rattle.line_plan.specs.Plan.{plan, dataPlan}
+use Rattle.units.specs.Units.{Line}
+use Rattle.line_plan.proofs.Plans.{fieldsIn, part-turn, fieldsIn-plan}
+use Rattle.read_columns.specs.Columns.{badColumn, inkFrom, blankAfter, columnOf, numbers, zeros}
+use Rattle.read_line.proofs.Later.{card-size}
+use Rattle.read_first_line.specs.Heading.{Shape, card, fields, Read, gives, cardsLine, countsIn, planLine, headerFields, countFields, prologueFields, catalogueLine, headerLine, dataLine, kindLine, firstLine}
+use Rattle.read_line.specs.Reading.{rowFields, inState, lineStep}
+use Rattle.read_text.specs.Spelled.{Readable, Blanks, SpellsAll, SpellsZero, LineSpells}
+use Rattle.read_text.proofs.Told.{Told, told, Known, then-known, known-as}
+use Rattle.units.proofs.Choosing.{by-test}
+use Rattle.read_text.proofs.Columns.{bad-most, clean, no-ink, WordsRead, numbers-known, zeros-known, blank-known}
+
+-- ---- the lines to come
+
+-- the words of a line to come, and of all of them
+abbrev pub wide : Shape → ℕ
+wide card = 40
+wide (fields n) = n
+
+unfoldable pub wordsToCome : List Shape → ℕ
+wordsToCome [] = 0
+wordsToCome (x ∷ rest) = wide x + wordsToCome rest
+
+cards-to-come : (n : ℕ) → wordsToCome (replicate n card) ≡ 40 * n
+unfolding wordsToCome
+cards-to-come zero = refl
+cards-to-come (suc n) = omega (arith, cards-to-come n)
+
+fields-to-come : (ns : List ℕ) → wordsToCome (map fields ns) ≡ fieldsIn ns
+unfolding wordsToCome fieldsIn
+fields-to-come [] = refl
+fields-to-come (n ∷ ns) = ap (λ m. n + m) (fields-to-come ns)
+
+-- ---- what a line gives
+
+-- n fields, and then fields up to 20 that are blank or 0
+pub record CardsHead (n shows : ℕ) (l : Line) (head : List ℕ) : Type 0 where
+  pub read : WordsRead l 0 n head
+  pub says : word head 2 ≡ shows
+  pub zeros : (k : ℕ) → n ≤ k → k < 20 → SpellsZero l k
+
+-- the first line of a Catalogue or a Header
+pub record CardsFirst (n kind shows : ℕ) (l : Line) (s : Read) : Type 0 where
+  pub head : List ℕ
+  pub is : CardsHead n shows l head
+  pub least : 1 ≤ word head 1
+  pub words : s .words ≡ 40 * word head 1 ∷ (kind ∷ drop 2 head) ++ replicate (40 - length head) 0
+  pub rest : s .rest ≡ replicate (word head 1 - 1) card
+
+-- the counts of a Data record are in range
+pub record Counts (front : List ℕ) : Type 0 where
+  pub lprol : Least 16 (word front 13)
+  pub jpar : Least 0 (word front 14)
+  pub mpar : Least 0 (word front 15)
+  pub nrow : Least 0 (word front 16)
+
+-- fields up to the counts
+record CountsHead (l : Line) (head : List ℕ) : Type 0 where
+  read : WordsRead l 0 16 head
+  says : word head 2 ≡ 1101
+  counts : Counts head
+
+-- and all fields of the line
+pub record DataHead (l : Line) (head : List ℕ) : Type 0 where
+  pub read : WordsRead l 0 (min (word head 13) 20) head
+  pub blank : Blanks (drop (6 * min (word head 13) 20) l)
+  pub says : word head 2 ≡ 1101
+  pub counts : Counts head
+
+-- the first line of a Data record
+pub record DataFirst (l : Line) (s : Read) : Type 0 where
+  pub head : List ℕ
+  pub is : DataHead l head
+  pub lines : word head 1 ≡ linesNeeded (word head 13) (word head 14) (word head 15) (word head 16)
+  pub words : s .words ≡ wordsNeeded (word head 13) (word head 14) (word head 15) (word head 16) ∷ (1002 ∷ drop 2 head)
+  pub rest : s .rest ≡ map fields (drop 1 (dataPlan head))
+
+pub data First (l : Line) (s : Read) : Type 0 where
+  catalogue-first : CardsFirst 12 2001 2101 l s → First l s
+  header-first : CardsFirst 15 3002 3101 l s → First l s
+  data-first : DataFirst l s → First l s
+
+-- a record's first line, with so many words before it: it tells the words of the record, and there is room for them
+pub record Opens (so : ℕ) (l : Line) (s : Read) : Type 0 where
+  pub first : First l s
+  pub total : word (s .words) 1 ≡ length (s .words) + wordsToCome (s .rest)
+  pub room : so + word (s .words) 1 ≤ 7998
+
+-- a line between records: a blank line, or a first line
+pub data Between (so : ℕ) (l : Line) (s : Read) : Type 0 where
+  skipped : Blanks l → s .words ≡ [] → s .rest ≡ [] → Between so l s
+  opens : Opens so l s → Between so l s
+
+-- what an accepted line gives, where `rest` was still to come
+abbrev pub Given : ℕ → List Shape → Line → Read → Type 0
+Given so [] l s = Between so l s
+Given so (x ∷ rest) l s = (s .rest ≡ rest) × LineSpells x l (s .words)
+
+-- and row 20 passes it
+pub record Taken (so : ℕ) (rest : List Shape) (l : Line) (s : Read) : Type 0 where
+  pub readable : Readable l
+  pub given : Given so rest l s
+
+-- a line after a record's first has so many words
+pub line-wide : (x : Shape) (l : Line) (ws : List ℕ) → LineSpells x l ws → length ws ≡ wide x
+line-wide card l ws h = ap length (h .0) ∙ card-size l
+line-wide (fields n) l ws h = h .0
+
+-- ---- first lines
+
+-- fields, and the fields after them
+spells-append : (l : Line) (k : ℕ) (ws vs : List ℕ) → SpellsAll l k ws → SpellsAll l (k + length ws) vs → SpellsAll l k (ws ++ vs)
+spells-append l k [] vs h g = rw add-zero at g
+spells-append l k (w ∷ ws) vs h g = let e : k + suc (length ws) ≡ suc k + length ws = omega arith in (h .0, spells-append l (suc k) ws vs (h .1) (rw e at g))
+
+both : (l : Line) (m n : ℕ) (ws vs : List ℕ) → WordsRead l 0 m ws → WordsRead l m n vs → WordsRead l 0 (m + n) (ws ++ vs)
+both l m n ws vs p q =
+    let e : m ≡ 0 + length ws = omega (arith, p .count) in
+    record { count = omega (arith, length-append ws vs, p .count, q .count); spells = spells-append l 0 ws vs (p .spells) (rw e at (q .spells)) }
+
+-- the words of a first line stay where more follow
+module _ (r more : List ℕ) (m : ℕ) (size : length r ≡ m) where
+  stays : (j : ℕ) → j < m → getD (r ++ more) j 0 ≡ getD r j 0
+  stays j h = List·getD-append r more 0 j (omega arith)
+
+  counts-on : 16 ≤ m → Counts r → Counts (r ++ more)
+  counts-on h c =
+      record { lprol = rw (stays 12 (omega arith)) (c .lprol); jpar = rw (stays 13 (omega arith)) (c .jpar); mpar = rw (stays 14 (omega arith)) (c .mpar); nrow = rw (stays 15 (omega arith)) (c .nrow) }
+
+-- a Data record's first line has min LPROL 20 fields
+head-on : (l : Line) (r more : List ℕ) → CountsHead l r → WordsRead l 16 (min (word r 13) 20 - 16) more → Blanks (drop (6 * min (word r 13) 20) l) → DataHead l (r ++ more)
+head-on l r more h m blank =
+    let size = h .read .count in
+    let least = h .counts .lprol .least-is in
+    let sum : 16 + (min (word r 13) 20 - 16) ≡ min (word r 13) 20 = omega arith in
+    let lprol = stays r more 16 size 12 (omega arith) in
+    record {
+      read = rw lprol (rw sum at (both l 16 (min (word r 13) 20 - 16) r more (h .read) m));
+      blank = rw lprol blank;
+      says = stays r more 16 size 1 (omega arith) ∙ h .says;
+      counts = counts-on r more 16 size (omega arith) (h .counts);
+    }
+
+-- the first line of a Data record's plan, and the others
+pub plan-turn : (lprol jpar mpar nrow : ℕ) → 0 < lprol → plan lprol jpar mpar nrow ≡ min lprol 20 ∷ drop 1 (plan lprol jpar mpar nrow)
+unfolding plan
+plan-turn lprol jpar mpar nrow h = rw (part-turn lprol h) refl
+
+module _ (num : ℕ) (hn : num < 2 ^ 24) where
+  -- row 27 at this field
+  range : (k : ℕ) → k ≤ 20 → Told (answer 27 num (columnOf k) 0)
+  range k h = told 27 num (columnOf k) (omega arith) hn (omega arith)
+
+  counts-known : (r : List ℕ) → Known (λ q. (q ≡ r) × Counts r) (countsIn num r)
+  unfolding countsIn
+  counts-known r =
+      by-test (Known P) (underLeast 16 (word r 13)) (refused (answer 27 num (columnOf 12) 0)) _ (λ _. range 12 (omega arith))
+      (λ l. by-test (Known P) (underLeast 0 (word r 14)) (refused (answer 27 num (columnOf 13) 0)) _ (λ _. range 13 (omega arith))
+      (λ j. by-test (Known P) (underLeast 0 (word r 15)) (refused (answer 27 num (columnOf 14) 0)) _ (λ _. range 14 (omega arith))
+      (λ m. by-test (Known P) (underLeast 0 (word r 16)) (refused (answer 27 num (columnOf 15) 0)) _ (λ _. range 15 (omega arith))
+      (λ n. (refl, record { lprol = at-least 16 (word r 13) l; jpar = at-least 0 (word r 14) j; mpar = at-least 0 (word r 15) m; nrow = at-least 0 (word r 16) n })))))
+    where
+      P : List ℕ → Type 0
+      P q = (q ≡ r) × Counts r
+
+  module _ (so : ℕ) (l : Line) where
+    -- the line of a Catalogue or a Header with n fields that may be free
+    module _ (n kind shows : ℕ) (low : 2 ≤ n) (high : n ≤ 40) (head : List ℕ) (is : CardsHead n shows l head)
+        (of : (s : Read) → CardsFirst n kind shows l s → First l s) where
+      cards-open : 1 ≤ word head 1 → so + 40 * word head 1 ≤ 7998
+          → Opens so l (record { words = 40 * word head 1 ∷ (kind ∷ drop 2 head) ++ replicate (40 - length head) 0; rest = replicate (word head 1 - 1) card })
+      cards-open least room =
+          let size = is .read .count in
+          let come = cards-to-come (word head 1 - 1) in
+          let zeros = length-replicate {A = ℕ} (40 - length head) 0 in
+          let forty = length-append (40 * word head 1 ∷ (kind ∷ drop 2 head)) (replicate (40 - length head) 0) in
+          record {
+            first = of _ (record { head = head; is = is; least = least; words = refl; rest = refl });
+            total = omega (arith, length-drop 2 head);
+            room = room;
+          }
+
+      cards-known : Known (Opens so l) (cardsLine num so kind head)
+      unfolding cardsLine
+      cards-known =
+          by-test (Known (Opens so l)) (ltb (word head 1) 1 || ltb 199 (word head 1)) (refused (answer 24 num 1 0)) _ (λ _. told 24 num 1 (omega arith) hn (omega arith))
+          (λ t. by-test (Known (Opens so l)) (ltb 7998 (so + 40 * word head 1)) (refused (answer 28 num 1 0)) _ (λ _. told 28 num 1 (omega arith) hn (omega arith))
+          (λ u. cards-open (ltb-false (word head 1) 1 (or-off (ltb (word head 1) 1) _ t .0)) (ltb-false 7998 (so + 40 * word head 1) u)))
+
+    -- the line of a Data record
+    module _ (head : List ℕ) (is : DataHead l head) where
+      abbrev needed : ℕ
+      needed = wordsNeeded (word head 13) (word head 14) (word head 15) (word head 16)
+
+      data-open : word head 1 ≡ linesNeeded (word head 13) (word head 14) (word head 15) (word head 16) → so + needed ≤ 7998
+          → Opens so l (record { words = needed ∷ (1002 ∷ drop 2 head); rest = map fields (drop 1 (dataPlan head)) })
+      unfolding fieldsIn
+      data-open lines room =
+          let least = is .counts .lprol .least-is in
+          let size = is .read .count in
+          let come = fields-to-come (drop 1 (dataPlan head)) in
+          let first = ap fieldsIn (plan-turn (word head 13) (word head 14) (word head 15) (word head 16) (omega arith)) in
+          let all = fieldsIn-plan (word head 13) (word head 14) (word head 15) (word head 16) in
+          record {
+            first = data-first (record { head = head; is = is; lines = lines; words = refl; rest = refl });
+            total = omega (arith, length-drop 2 head);
+            room = room;
+          }
+
+      plan-known : Known (Opens so l) (planLine num so head)
+      unfolding planLine
+      plan-known =
+          let lines = linesNeeded (word head 13) (word head 14) (word head 15) (word head 16) in
+          by-test (Known (Opens so l)) (ltb 7998 (so + needed)) (refused (answer 28 num 1 0)) _ (λ _. told 28 num 1 (omega arith) hn (omega arith))
+          (λ t. by-test (Known (Opens so l)) (not (eqb (word head 1) lines)) (refused (answer 24 num 1 0)) _
+          (λ _. told 24 num 1 (omega arith) hn (omega arith))
+          (λ u. data-open (eqb-true (word head 1) lines (not-false _ u)) (ltb-false 7998 (so + needed) t)))
+
+    -- ---- any line
+
+    module _ (head : List ℕ) (read : WordsRead l 0 12 head) where
+      catalogue-known : word head 2 ≡ 2101 → Known (Opens so l) (catalogueLine num so l head)
+      unfolding catalogueLine
+      catalogue-known e =
+          then-known (λ _. (k : ℕ) → 12 ≤ k → k < 20 → SpellsZero l k) (Opens so l) (zeros num l 12 8) _ (zeros-known num hn l 12 8 (omega arith))
+          (λ _ z. cards-known 12 2001 2101 (omega arith) (omega arith) head (record { read = read; says = e; zeros = z }) (λ _ c. catalogue-first c))
+
+      header-fields-known : word head 2 ≡ 3101 → Known (CardsHead 15 3101 l) (headerFields num l head)
+      unfolding headerFields
+      header-fields-known e =
+          then-known (WordsRead l 12 3) (CardsHead 15 3101 l) (numbers num l 12 3) _ (numbers-known num hn l 12 3 (omega arith))
+          (λ more m. then-known (λ _. (k : ℕ) → 15 ≤ k → k < 20 → SpellsZero l k) (CardsHead 15 3101 l) (zeros num l 15 5) _ (zeros-known num hn l 15 5 (omega arith))
+          (λ _ z. record { read = both l 12 3 head more read m; says = stays head more 12 (read .count) 1 (omega arith) ∙ e; zeros = z }))
+
+      header-known : word head 2 ≡ 3101 → Known (Opens so l) (headerLine num so l head)
+      unfolding headerLine
+      header-known e =
+          then-known (CardsHead 15 3101 l) (Opens so l) (headerFields num l head) _ (header-fields-known e)
+          (λ r h. cards-known 15 3002 3101 (omega arith) (omega arith) r h (λ _ c. header-first c))
+
+      count-fields-known : word head 2 ≡ 1101 → Known (CountsHead l) (countFields num l head)
+      unfolding countFields
+      count-fields-known e =
+          then-known (WordsRead l 12 4) (CountsHead l) (numbers num l 12 4) _ (numbers-known num hn l 12 4 (omega arith))
+          (λ more m. known-as (λ q. (q ≡ head ++ more) × Counts (head ++ more)) (CountsHead l) (countsIn num (head ++ more)) (counts-known (head ++ more))
+          (λ q c. rw (c .0) (record { read = both l 12 4 head more read m; says = stays head more 12 (read .count) 1 (omega arith) ∙ e; counts = c .1 })))
+
+    prologue-known : Readable l → (r : List ℕ) → CountsHead l r → Known (DataHead l) (prologueFields num l r)
+    unfolding prologueFields
+    prologue-known e r h =
+        let used = min (word r 13) 20 in
+        then-known (WordsRead l 16 (used - 16)) (DataHead l) (numbers num l 16 (used - 16)) _ (numbers-known num hn l 16 (used - 16) (omega arith))
+        (λ more m. then-known (λ _. Blanks (drop (6 * used) l)) (DataHead l) (blankAfter num l (6 * used)) _ (blank-known num hn l (6 * used) e (omega arith))
+        (λ _ b. head-on l r more h m b))
+
+    data-known : Readable l → (head : List ℕ) → WordsRead l 0 12 head → word head 2 ≡ 1101 → Known (Opens so l) (dataLine num so l head)
+    unfolding dataLine
+    data-known e head read k =
+        then-known (CountsHead l) (Opens so l) (countFields num l head) _ (count-fields-known head read k)
+        (λ r h. then-known (DataHead l) (Opens so l) (prologueFields num l r) _ (prologue-known e r h)
+        (λ q g. plan-known q g))
+
+    kind-known : Readable l → (head : List ℕ) → WordsRead l 0 12 head → Known (Opens so l) (kindLine num so l head)
+    unfolding kindLine
+    kind-known e head read =
+        by-test (Known (Opens so l)) (eqb (word head 2) 2101) (catalogueLine num so l head) _ (λ t. catalogue-known head read (eqb-true (word head 2) 2101 t))
+        (λ _. by-test (Known (Opens so l)) (eqb (word head 2) 3101) (headerLine num so l head) _ (λ t. header-known head read (eqb-true (word head 2) 3101 t))
+        (λ _. by-test (Known (Opens so l)) (eqb (word head 2) 1101) (dataLine num so l head) (refused (answer 23 num 7 0)) (λ t. data-known e head read (eqb-true (word head 2) 1101 t))
+        (λ _. told 23 num 7 (omega arith) hn (omega arith))))
+
+    first-known : Readable l → Known (Opens so l) (firstLine num so l)
+    unfolding firstLine
+    first-known e =
+        then-known (WordsRead l 0 12) (Opens so l) (numbers num l 0 12) _ (numbers-known num hn l 0 12 (omega arith)) (λ head read. kind-known e head read)
+
+    row-known : Readable l → (n : ℕ) → n ≤ 7998 → Known (LineSpells (fields n) l) (rowFields num l n)
+    unfolding rowFields
+    row-known e n h =
+        then-known (WordsRead l 0 n) (LineSpells (fields n) l) (numbers num l 0 n) _ (numbers-known num hn l 0 n (omega arith))
+        (λ ws r. then-known (λ _. Blanks (drop (6 * n) l)) (LineSpells (fields n) l) (blankAfter num l (6 * n)) _ (blank-known num hn l (6 * n) e (omega arith))
+        (λ _ b. (r .count, r .spells, b)))
+
+    state-known : (rest : List Shape) → so + wordsToCome rest ≤ 7998 → Readable l → Known (Given so rest l) (inState num so rest l)
+    unfolding inState wordsToCome
+    state-known (card ∷ rest) room e =
+        then-known (λ _. Blanks (drop 80 l)) (Given so (card ∷ rest) l) (blankAfter num l 80) _ (blank-known num hn l 80 e (omega arith)) (λ _ b. (refl, (refl, b)))
+    state-known (fields n ∷ rest) room e =
+        then-known (LineSpells (fields n) l) (Given so (fields n ∷ rest) l) (rowFields num l n) _ (row-known e n (omega arith)) (λ ws r. (refl, r))
+    state-known [] room e =
+        by-test (Known (Between so l)) (eqb (inkFrom 1 l) 0) (gives [] []) (firstLine num so l) (λ t. skipped (no-ink 1 l (omega arith) (eqb-true (inkFrom 1 l) 0 t)) refl refl)
+        (λ _. known-as (Opens so l) (Between so l) (firstLine num so l) (first-known e) (λ s o. opens o))
+
+    pub line-known : (rest : List Shape) → so + wordsToCome rest ≤ 7998 → Known (Taken so rest l) (lineStep num so rest l)
+    unfolding lineStep
+    line-known rest room =
+        by-test (Known (Taken so rest l)) (ltb 0 (badColumn 1 l)) (refused (answer 20 num (badColumn 1 l) 0)) _
+        (λ _. told 20 num (badColumn 1 l) (omega arith) hn (omega (arith, bad-most 1 l (omega arith))))
+        (λ t. let e = clean l (omega (arith, ltb-false 0 (badColumn 1 l) t)) in
+        known-as (Given so rest l) (Taken so rest l) (inState num so rest l) (state-known rest room e) (λ s g. record { readable = e; given = g }))

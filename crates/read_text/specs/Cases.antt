@@ -1,0 +1,29 @@
+-- The paper's numbers for each case of what becomes of a text.
+use Prim.Native.Nat.{ℕ, _≤_}
+use mathlib.Core.Path.{_≡_}
+use Rattle.units.specs.declared.Answer.{Answer}
+use Rattle.units.specs.Answers.{answer, Verdict, passed, refused}
+use Rattle.read_columns.specs.Cases.{flawOf}
+use Rattle.read_text.specs.declared.Content.{Content}
+use Rattle.read_text.specs.declared.Content.the-variants.{Records, Flawed}
+use Rattle.read_text.specs.declared.Blocked.{Blocked}
+use Rattle.read_text.specs.declared.Blocked.the-variants.{Block, Refused, Short}
+
+-- "Order for text: 30, then line by line ... At the end 21": rows 20 to 28, and 30
+abbrev pub TextRow : ℕ → Type 0
+TextRow n = (20 ≤ n) × (n ≤ 30) × (n ≡ 29 → ⊥)
+
+-- "then 29"
+abbrev pub ToBlockRow : ℕ → Type 0
+ToBlockRow n = (20 ≤ n) × (n ≤ 30)
+
+-- the record words of a text, or its refusal
+abbrev pub contentOf : Content → Verdict ℕ
+contentOf (Records n) = passed (n .0)
+contentOf (Flawed f) = refused (flawOf f)
+
+-- the bytes written; the text's refusal; row 29 with the bytes needed
+abbrev pub blockedOf : Blocked → Answer
+blockedOf (Block size) = answer 0 (size .0) 0 0
+blockedOf (Refused f) = flawOf f
+blockedOf (Short size) = answer 29 (size .0) 0 0

@@ -1,0 +1,127 @@
+// Lines to block. The same loop judges and writes: into a block of no bytes nothing is written.
+use read_columns::Flaw;
+use read_first_line::Plan;
+use read_first_line::Step;
+use units::Answer;
+use units::Bytes;
+use units::Lines;
+use units::Words;
+ghost use mathlib.Core.Path.{_≡_};
+ghost use mathlib.Core.List.{[]};
+ghost use Prim.Native.Nat.{_≤_};
+ghost use lib.ListN.{length};
+ghost use Rattle.units.specs.Answers.{Packs};
+ghost use Rattle.words.specs.Outcomes.{leaves};
+ghost use Rattle.read_cut.specs.Cutting.{linesIn};
+ghost use Rattle.read_line.specs.Reading.{readLines};
+ghost use Rattle.read_first_line.specs.State.{toCome};
+ghost use Rattle.read_text.specs.Content.{kept, keptOf, Ended};
+ghost use Rattle.read_text.specs.Block.{wordsIn, toBlock};
+ghost use Rattle.read_text.specs.Cases.{contentOf, blockedOf};
+
+// What is found of a text: so many record words, or why it is refused.
+pub enum Content {
+    Records(Words),
+    Flawed(Flaw),
+}
+
+// At the end of the text; `num` is one more than its last line.
+fn at_end(plan: Plan, num: Lines, so: Words) -> Content
+    ensures { λ r. ⌜ Ended (num .0) (so .0) (toCome plan) r ⌝ }
+{
+    let p = read_line::settled(plan);
+    if 0 < p.cards.0 {
+        return Content::Flawed(Flaw::Ends(num));
+    }
+    if 0 < p.left.0 {
+        return Content::Flawed(Flaw::Ends(num));
+    }
+    if so.0 == 0 {
+        return Content::Flawed(Flaw::NoRecord);
+    }
+    Content::Records(so)
+}
+
+// Reads the lines of a text, and puts their words into the block behind its length word, as far as it has room.
+fn read_lines(text: &[u8], block: &mut [u8]) -> Content
+    requires { ⌜ length (now text) ≤ 65536 ⌝ }
+    ensures { λ r. ⌜ keptOf (now (block .exit)) r ≡ kept 0 (now (block .entry)) (readLines 1 0 [] (linesIn (now (text .entry)))) ⌝ }
+{
+    let mut row = [0u16; 20];
+    let mut plan = read_first_line::cards_only(Lines(0));
+    let mut so = Words(0);
+    let mut num = 1;
+    let mut at = 0;
+    while at < text.len() {
+        let cut = read_cut::next_line(text, Bytes(at));
+        let end = cut.end.0;
+        let next = cut.next.0;
+        let plain = Bytes(cut.plain.0);
+        match read_line::read_line(plan, Lines(num), so, &text[at..end], plain, &mut row, block) {
+            Step::Refused(f) => return Content::Flawed(f),
+            Step::Next(p, n) => {
+                plan = p;
+                so = n;
+                num += 1;
+                at = next;
+            }
+        }
+    }
+    at_end(plan, Lines(num), so)
+}
+
+// What becomes of a text: a block of so many bytes, its refusal, or a buffer that is too short for the bytes needed.
+pub enum Blocked {
+    Block(Bytes),
+    Refused(Flaw),
+    Short(Bytes),
+}
+
+// Judges a text, and writes nothing.
+pub fn judge(text: &[u8]) -> Content
+    ensures { λ r. ⌜ contentOf r ≡ wordsIn (now (text .entry)) ⌝ }
+{
+    if 65536 < text.len() {
+        return Content::Flawed(Flaw::Long);
+    }
+    let mut nothing = [0u8; 0];
+    read_lines(text, &mut nothing)
+}
+
+// Writes the block of an accepted text that has so many record words, if the lent block has room for it.
+fn write_block(text: &[u8], records: Words, block: &mut [u8]) -> Blocked
+    requires { ⌜ contentOf (Content.Records records) ≡ wordsIn (now text) ⌝ }
+    ensures { λ r. ⌜ leaves (blockedOf r) (now (block .exit)) ≡ toBlock (now (text .entry)) (now (block .entry)) ⌝ }
+{
+    let all = records.0 + 2;
+    let needed = units::bytes_of_words(Words(all));
+    let size = needed.0;
+    if block.len() < size {
+        return Blocked::Short(needed);
+    }
+    read_lines(text, block);
+    words::seal(block, records);
+    Blocked::Block(needed)
+}
+
+// Lines to block.
+pub fn to_block(text: &[u8], block: &mut [u8]) -> Blocked
+    ensures { λ r. ⌜ leaves (blockedOf r) (now (block .exit)) ≡ toBlock (now (text .entry)) (now (block .entry)) ⌝ }
+{
+    match judge(text) {
+        Content::Flawed(f) => Blocked::Refused(f),
+        Content::Records(n) => write_block(text, n, block),
+    }
+}
+
+// The four numbers of an answer.
+pub fn numbers(b: Blocked) -> Answer
+    requires { ⌜ Packs (blockedOf b) ⌝ }
+    ensures { λ r. ⌜ r ≡ blockedOf b ⌝ }
+{
+    match b {
+        Blocked::Block(size) => units::sized(0, size),
+        Blocked::Refused(f) => read_columns::numbers(f),
+        Blocked::Short(size) => units::sized(29, size),
+    }
+}

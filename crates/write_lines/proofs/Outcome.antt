@@ -1,0 +1,39 @@
+-- The outcome of block to lines, by what the judge says.
+use mathlib.Core.Logic.{_⊎_, inl, inr}
+use mathlib.Core.Path.{_≡_, refl}
+use mathlib.Core.List.{List}
+use Prim.Native.Nat.{ℕ}
+use native.Mathlib.Omega.{arith}
+use Rattle.units.specs.declared.Answer.{Answer}
+use Rattle.units.specs.Answers.{Verdict, passed, refused, Packs}
+use Rattle.words.specs.Outcomes.{written, leaves}
+use Rattle.block.specs.Judging.{judged}
+use Rattle.block.specs.Records.{recordsOf}
+use Rattle.block.proofs.Known.{Known, judged-known}
+use Rattle.words.specs.Words.{Below}
+use Rattle.words.proofs.Writing.{written-told}
+use Rattle.write_lines.proofs.Sizes.{text-bound}
+use Rattle.write_lines.specs.Cases.{LinesRow}
+use Rattle.write_lines.specs.Text.{textOf, toLines}
+
+pub when-refused : (b out : List ℕ) (r : Answer) → judged b ≡ refused r → toLines b out ≡ leaves r out
+unfolding toLines written
+when-refused b out r e = rw e
+
+pub when-accepted : (b out : List ℕ) (k : ℕ) → judged b ≡ passed k → toLines b out ≡ written out (passed (textOf (recordsOf b)))
+unfolding toLines
+when-accepted b out k e = rw e
+
+-- the answer's numbers: with 0 and 29 at most 55,971 bytes
+pub outcome-told : (b out : List ℕ) → Below 256 b → ((toLines b out .answer .n ≡ 0) ⊎ LinesRow (toLines b out .answer .n)) × Packs (toLines b out .answer)
+outcome-told b out h = by (judged b) refl (judged-known b h)
+  where
+    listed : {n : ℕ} → (n ≡ 0) ⊎ (n ≡ 29) → (n ≡ 0) ⊎ LinesRow n
+    listed (inl e) = inl e
+    listed (inr e) = inr (inr e)
+
+    by : (v : Verdict ℕ) → judged b ≡ v → Known v → ((toLines b out .answer .n ≡ 0) ⊎ LinesRow (toLines b out .answer .n)) × Packs (toLines b out .answer)
+    by (refused r) e t = rw (when-refused b out r e) (inr (inl (t .listed)), t .packs)
+    by (passed k) e t =
+        let w = written-told out (textOf (recordsOf b)) (omega (arith, text-bound b h (record { count = k; is = e }))) in
+        rw (when-accepted b out k e) (listed (w .0), w .1)

@@ -1,0 +1,165 @@
+// Block to lines: the standard lines of a block's records, written straight into the lent text.
+use block::Judged;
+use block::Place;
+use block::Refusal;
+use units::Answer;
+use units::Bytes;
+use units::Lines;
+use units::Words;
+ghost use mathlib.Core.Path.{_≡_};
+ghost use mathlib.Core.List.{_∷_};
+ghost use Prim.Native.Nat.{_^_, _≤_, _<_};
+ghost use lib.ListN.{length, drop};
+ghost use Rattle.words.specs.Words.{wordsOf};
+ghost use Rattle.words.specs.Writing.{Room, Put};
+ghost use Rattle.record.specs.Rules.{DataOk, RecordOk};
+ghost use Rattle.write_parts.specs.Laid.{laid, ended};
+ghost use Rattle.line_plan.specs.Plan.{dataPlan, kindShown};
+ghost use Rattle.write_lines.specs.Lines.{linesOf};
+ghost use Rattle.write_lines.specs.Text.{textOf, toLines};
+ghost use Rattle.write_lines.specs.Cases.{linedOf};
+ghost use Rattle.units.specs.Answers.{passed};
+ghost use Rattle.words.specs.Outcomes.{written, leaves};
+ghost use Rattle.block.specs.Judging.{Accepted};
+ghost use Rattle.block.specs.Records.{recordsOf};
+
+// What becomes of a block: so many bytes of text, its refusal, or a text that is too short for the bytes needed.
+pub enum Lined {
+    Text(Bytes),
+    Refused(Refusal),
+    Short(Bytes),
+}
+
+// Writes a Data record's lines.
+fn write_data(whole: &[u8], lines: u16, out: &mut [u8], at: Bytes) -> Bytes
+    requires { ⌜ DataOk (wordsOf (now whole)) × Room (now out) (at .0) (ended (laid (dataPlan (wordsOf (now whole))) (lines ∷ (1101 ∷ drop 2 (wordsOf (now whole)))))) ⌝ }
+    ensures { λ r. ⌜ Put (now (out .entry)) (at .0) (ended (laid (dataPlan (wordsOf (now (whole .entry)))) (lines ∷ (1101 ∷ drop 2 (wordsOf (now (whole .entry))))))) (now (out .exit)) (r .0) ⌝ }
+{
+    let lprol = units::words_said(words::word_at(whole, Words(12)));
+    let jpar = units::words_said(words::word_at(whole, Words(13)));
+    let mpar = units::words_said(words::word_at(whole, Words(14)));
+    let nrow = words::word_at(whole, Words(15));
+    write_parts::write_plan(whole, lines, lprol, jpar, mpar, nrow, out, at)
+}
+
+// The kind that a record's lines show.
+fn kind_shown(kind: u16) -> u16
+    ensures { λ r. ⌜ r ≡ kindShown kind ⌝ }
+{
+    if kind == record::CATALOGUE {
+        return 2101;
+    }
+    if kind == record::HEADER {
+        return 3101;
+    }
+    1101
+}
+
+// Writes a good record's lines.
+fn write_record(whole: &[u8], out: &mut [u8], at: Bytes) -> Bytes
+    requires { ⌜ RecordOk (wordsOf (now whole)) × (length (wordsOf (now whole)) ≤ 8000) × Room (now out) (at .0) (ended (linesOf (wordsOf (now whole)))) ⌝ }
+    ensures { λ r. ⌜ Put (now (out .entry)) (at .0) (ended (linesOf (wordsOf (now (whole .entry))))) (now (out .exit)) (r .0) ⌝ }
+{
+    let count = record::line_count(whole).0;
+    let lines = units::saying_lines(Lines(count));
+    let kind = words::word_at(whole, Words(1));
+    if kind == record::DATA {
+        return write_data(whole, lines, out, at);
+    }
+    let cards = count - 1;
+    let to = write_parts::write_head(whole, lines, kind_shown(kind), Words(20), out, at);
+    write_parts::write_cards(whole, Words(40), Lines(cards), out, to)
+}
+
+// The bytes of a good record's text: a field is six columns, a card its words' bytes, and each line has its end.
+fn record_size(whole: &[u8]) -> Bytes
+    requires { ⌜ RecordOk (wordsOf (now whole)) × (length (wordsOf (now whole)) ≤ 8000) ⌝ }
+    ensures { λ r. ⌜ r .0 ≡ length (ended (linesOf (wordsOf (now (whole .entry))))) ⌝ }
+{
+    let words = words::count(whole);
+    let ends = units::ends_of_lines(record::line_count(whole)).0;
+    if words::word_at(whole, Words(1)) == record::DATA {
+        let columns = units::columns_of_fields(words).0;
+        let size = columns + ends;
+        return Bytes(size);
+    }
+    let behind = words.0 - 40;
+    let columns = units::columns_of_fields(Words(20)).0;
+    let cards = units::bytes_of_words(Words(behind)).0;
+    let size = columns + cards + ends;
+    Bytes(size)
+}
+
+// The bytes of an accepted block's text.
+fn text_size(block: &[u8]) -> Bytes
+    requires { ⌜ Accepted (now block) ⌝ }
+    ensures { λ r. ⌜ r .0 ≡ length (textOf (recordsOf (now (block .entry)))) ⌝ }
+{
+    let mut at = 1;
+    let mut bytes = 0;
+    loop {
+        match block::step(block, Words(at)) {
+            Place::NoMore => return Bytes(bytes),
+            Place::Record(place, size) => {
+                let next = at + size.0;
+                bytes += record_size(words::part(block, place, Words(next))).0;
+                at = next;
+            }
+        }
+    }
+}
+
+// Writes an accepted block's text.
+pub fn write_records(block: &[u8], out: &mut [u8]) -> Bytes
+    requires { ⌜ Accepted (now block) × Room (now out) 0 (textOf (recordsOf (now block))) ⌝ }
+    ensures { λ r. ⌜ Put (now (out .entry)) 0 (textOf (recordsOf (now (block .entry)))) (now (out .exit)) (r .0) ⌝ }
+{
+    let mut at = 1;
+    let mut to = Bytes(0);
+    loop {
+        match block::step(block, Words(at)) {
+            Place::NoMore => return to,
+            Place::Record(place, size) => {
+                let next = at + size.0;
+                to = write_record(words::part(block, place, Words(next)), out, to);
+                at = next;
+            }
+        }
+    }
+}
+
+// Writes an accepted block's text, if the lent text has room for it.
+fn write_text(block: &[u8], text: &mut [u8]) -> Lined
+    requires { ⌜ Accepted (now block) ⌝ }
+    ensures { λ r. ⌜ leaves (linedOf r) (now (text .exit)) ≡ written (now (text .entry)) (passed (textOf (recordsOf (now (block .entry))))) ⌝ }
+{
+    let needed = text_size(block);
+    let bytes = needed.0;
+    if text.len() < bytes {
+        return Lined::Short(needed);
+    }
+    let end = write_records(block, text);
+    Lined::Text(end)
+}
+
+// Block to lines.
+pub fn to_lines(block: &[u8], text: &mut [u8]) -> Lined
+    ensures { λ r. ⌜ leaves (linedOf r) (now (text .exit)) ≡ toLines (now (block .entry)) (now (text .entry)) ⌝ }
+{
+    match block::judge(block) {
+        Judged::Refused(r) => Lined::Refused(r),
+        Judged::Records(_) => write_text(block, text),
+    }
+}
+
+// The four numbers of an answer.
+pub fn numbers(l: Lined) -> Answer
+    requires { ⌜ linedOf l .a < 2 ^ 24 ⌝ }
+    ensures { λ r. ⌜ r ≡ linedOf l ⌝ }
+{
+    match l {
+        Lined::Text(size) => units::sized(0, size),
+        Lined::Refused(r) => block::refusal_numbers(r),
+        Lined::Short(size) => units::sized(29, size),
+    }
+}
