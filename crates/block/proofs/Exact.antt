@@ -16,9 +16,9 @@ use Rattle.words.proofs.Laws.{length-bytesOf, bytes-words, words-bytes, words-b
 use Rattle.words.proofs.Lists.{all-take, all-drop}
 use Rattle.record.specs.Judging.{judgeRecord}
 use Rattle.record.specs.Rules.{RecordOk}
-use Rattle.record.proofs.Passed.{record-passed, passed-room, passed-record}
+use Rattle.record.proofs.Passed.{record-passed, passed-size, passed-record}
 use Rattle.record.proofs.Exact.{record-ok, ok-passes}
-use Rattle.block.specs.Judging.{wrongSize, inner, computed, walk, judged}
+use Rattle.block.specs.Judging.{wrongSize, inner, checksumOf, walk, judged}
 use Rattle.block.specs.Records.{cut, recordsOf}
 use Rattle.block.specs.Rules.{IsBlock}
 use Rattle.block.proofs.Size.{SizeRight, size-right, right-size}
@@ -58,9 +58,9 @@ walked zero n k (w ∷ ws) h b e = by (judgeRecord n (w ∷ ws)) refl (λ j. wal
     by : (v : Verdict ℕ) → judgeRecord n rest ≡ v → ((j : ℕ) → walk (j - 1) (n + 1) ws ≡ passed k → Cut (drop (j - 1) ws) (cut (j - 1) ws) (n + 1) k)
         → Cut rest (take w rest ∷ cut (w - 1) ws) n k
     by (refused a) q ih = absurd (never-passed (rw q at e))
-    by (passed zero) q ih = absurd (omega (arith, passed-room n rest zero q .least))
+    by (passed zero) q ih = absurd (omega (arith, passed-size n rest zero q .least))
     by (passed (suc j)) q ih =
-        let s : w ≡ suc j = passed-room n rest (suc j) q .says in
+        let s : w ≡ suc j = passed-size n rest (suc j) q .says in
         rw (s, sub-one) (rw s at (one j q (rw sub-one at (ih (suc j) (rw q at e)))))
 
 cut-drop : (skip : ℕ) (ws : List ℕ) → cut skip ws ≡ cut 0 (drop skip ws)
@@ -82,7 +82,7 @@ passes : (n : ℕ) (r tail : List ℕ) → RecordOk r → judgeRecord n (r ++ ta
 passes n r tail h = passed-record n (r ++ tail) (length r) (ok-passes r tail h)
 
 pub ok-long : (r : List ℕ) → RecordOk r → 16 ≤ length r
-ok-long r h = passed-room 1 (r ++ []) (length r) (passes 1 r [] h) .least
+ok-long r h = passed-size 1 (r ++ []) (length r) (passes 1 r [] h) .least
 
 cut-joined : (rs : List (List ℕ)) → All RecordOk rs → cut 0 (joined rs) ≡ rs
 unfolding joined cut
@@ -122,7 +122,7 @@ three-parts ws h =
     sym (take-append-drop n ws) ∙ cc (first, last)
 
 -- words whose first and last are right are the frame of those between
-frame-is : (ws : List ℕ) → 2 ≤ length ws → word ws 1 ≡ length ws → word ws (length ws) ≡ computed ws → ws ≡ framed (inner ws)
+frame-is : (ws : List ℕ) → 2 ≤ length ws → word ws 1 ≡ length ws → word ws (length ws) ≡ checksumOf ws → ws ≡ framed (inner ws)
 unfolding framed
 frame-is ws h first sum =
     let e = three-parts ws h in
@@ -134,7 +134,7 @@ frame-is ws h first sum =
 pub record Framed (ws : List ℕ) : Type 0 where
   pub size : length (framed ws) ≡ length ws + 2
   pub first : word (framed ws) 1 ≡ length (framed ws)
-  pub last : word (framed ws) (length (framed ws)) ≡ computed (framed ws)
+  pub last : word (framed ws) (length (framed ws)) ≡ checksumOf (framed ws)
   pub between : inner (framed ws) ≡ ws
 
 pub frame-of : (ws : List ℕ) → Framed ws
@@ -156,7 +156,7 @@ frame-of ws =
 pub record FrameOk (b : List ℕ) (k : ℕ) : Type 0 where
   pub size : SizeRight (length b) (length (wordsOf b))
   pub first : word (wordsOf b) 1 ≡ length (wordsOf b)
-  pub last : word (wordsOf b) (length (wordsOf b)) ≡ computed (wordsOf b)
+  pub last : word (wordsOf b) (length (wordsOf b)) ≡ checksumOf (wordsOf b)
   pub records : walk 0 1 (inner (wordsOf b)) ≡ passed k
 
 pub frame-ok : (b : List ℕ) (k : ℕ) → judged b ≡ passed k → FrameOk b k
@@ -165,11 +165,11 @@ frame-ok b k e =
     let ws = wordsOf b in
     let s = else-passed (wrongSize (length b)) (answer 1 0 0 0) _ k e in
     let c = else-passed (not (eqb (word ws 1) (length ws))) (answer 2 0 0 0) _ k (s .1) in
-    let x = else-passed (not (eqb (word ws (length ws)) (computed ws))) (answer 3 0 0 _) _ k (c .1) in
+    let x = else-passed (not (eqb (word ws (length ws)) (checksumOf ws))) (answer 3 0 0 _) _ k (c .1) in
     record {
       size = size-right b (s .0);
       first = eqb-true (word ws 1) (length ws) (not-false _ (c .0));
-      last = eqb-true (word ws (length ws)) (computed ws) (not-false _ (x .0));
+      last = eqb-true (word ws (length ws)) (checksumOf ws) (not-false _ (x .0));
       records = x .1;
     }
 
@@ -177,7 +177,7 @@ pub ok-frame : (b : List ℕ) (k : ℕ) → FrameOk b k → judged b ≡ passed 
 unfolding judged
 ok-frame b k f =
     let ws = wordsOf b in
-    simp (right-size b (f .size), eq-eqb (word ws 1) (length ws) (f .first), eq-eqb (word ws (length ws)) (computed ws) (f .last)) (f .records)
+    simp (right-size b (f .size), eq-eqb (word ws 1) (length ws) (f .first), eq-eqb (word ws (length ws)) (checksumOf ws) (f .last)) (f .records)
 
 below-inner : (b : List ℕ) → Below 256 b → Below 65536 (inner (wordsOf b))
 below-inner b h =

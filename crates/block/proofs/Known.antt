@@ -12,7 +12,8 @@ use lib.ListN.{length, take}
 use lib.Seq.{length-slice}
 use Rattle.units.specs.Choice.{if_then_else_}
 use Rattle.units.specs.declared.Answer.{Answer}
-use Rattle.units.specs.Answers.{answer, Verdict, passed, refused, onward, Packs}
+use Rattle.units.specs.Answers.{answer, Verdict, passed, refused, onward}
+use Rattle.units.proofs.Told.{Told, Known}
 use Rattle.units.proofs.Choosing.{by-test, both-ways}
 use Rattle.words.specs.Words.{wordsOf, word, Below}
 use Rattle.words.proofs.Laws.{words-below, getD-below}
@@ -20,29 +21,24 @@ use Rattle.words.proofs.Lists.{all-take, all-drop}
 use Rattle.words.proofs.Xor.{fold-below}
 use Rattle.record.specs.Judging.{wrongTotal, underLeast, firstNotZero, firstNotCard, judgeCards, judgeCounts, judgeData, judgeRecord, wordsNeeded}
 use Rattle.block.specs.Cases.{BlockRow}
-use Rattle.block.specs.Judging.{wrongSize, inner, computed, walk, judged}
+use Rattle.block.specs.Judging.{wrongSize, inner, checksumOf, walk, judged}
 use Rattle.block.proofs.Size.{size-right}
 
--- a refusal of the judge: its number is one of the paper's, and the others have room
-pub record Told (r : Answer) : Type 0 where
-  pub listed : BlockRow (r .n)
-  pub packs : Packs r
-
-abbrev pub Known : Verdict ℕ → Type 0
-Known (passed a) = a < 2 ^ 16
-Known (refused r) = Told r
+-- the answer of the judge: its number is one of the paper's, and the others have room
+abbrev pub KnownBlock : Verdict ℕ → Type 0
+KnownBlock v = Known BlockRow (λ a. a < 2 ^ 16) v
 
 -- refusal n at record k, with b and c
-told : (n k b c : ℕ) → BlockRow n → k < 2 ^ 16 → b < 2 ^ 16 → c < 2 ^ 16 → Told (answer n k b c)
+told : (n k b c : ℕ) → BlockRow n → k < 2 ^ 16 → b < 2 ^ 16 → c < 2 ^ 16 → Told BlockRow (answer n k b c)
 told n k b c hn hk hb hc =
     record { listed = hn; packs = omega arith }
 
 -- one row of the order: its numbers need only be known where its test holds, and the rest where it does not
-row : (t : Bool) (r : Answer) (v : Verdict ℕ) → (t ≡ true → Told r) → (t ≡ false → Known v) → Known (if t then refused r else v)
-row t r v h k = by-test Known t (refused r) v h k
+row : (t : Bool) (r : Answer) (v : Verdict ℕ) → (t ≡ true → Told BlockRow r) → (t ≡ false → KnownBlock v) → KnownBlock (if t then refused r else v)
+row t r v h k = by-test KnownBlock t (refused r) v h k
 
 module _ (n : ℕ) (hn : n < 2 ^ 16) (rest : List ℕ) (below : word rest 1 < 2 ^ 16) where
-  cards-known : (z : ℕ) → 1 ≤ z → z ≤ 41 → Known (judgeCards n z rest)
+  cards-known : (z : ℕ) → 1 ≤ z → z ≤ 41 → KnownBlock (judgeCards n z rest)
   unfolding judgeCards
   cards-known z low high =
       row (wrongTotal (word rest 1) (length rest)) (answer 6 n 1 0) _ (λ _. told 6 n 1 0 (omega arith) hn (omega arith) (omega arith))
@@ -53,10 +49,10 @@ module _ (n : ℕ) (hn : n < 2 ^ 16) (rest : List ℕ) (below : word rest 1 < 2 
       (λ _. below)))
 
   -- a row 9 at this word
-  nine : (w : ℕ) → w ≤ 16 → Told (answer 9 n w 0)
+  nine : (w : ℕ) → w ≤ 16 → Told BlockRow (answer 9 n w 0)
   nine w h = told 9 n w 0 (omega arith) hn (omega arith) (omega arith)
 
-  data-known : Known (judgeData n rest)
+  data-known : KnownBlock (judgeData n rest)
   unfolding judgeData judgeCounts
   data-known =
       row (ltb (word rest 1) 16 || ltb (length rest) (word rest 1)) (answer 6 n 1 0) _ (λ _. told 6 n 1 0 (omega arith) hn (omega arith) (omega arith))
@@ -67,26 +63,26 @@ module _ (n : ℕ) (hn : n < 2 ^ 16) (rest : List ℕ) (below : word rest 1 < 2 
       (λ _. row (not (eqb (word rest 1) (wordsNeeded (word rest 13) (word rest 14) (word rest 15) (word rest 16)))) (answer 9 n 1 0) _ (λ _. nine 1 (omega arith))
       (λ _. below))))))
 
-  record-known : Known (judgeRecord n rest)
+  record-known : KnownBlock (judgeRecord n rest)
   unfolding judgeRecord
   record-known =
       row (ltb (length rest) 16) (answer 4 n 1 0) _ (λ _. told 4 n 1 0 (omega arith) hn (omega arith) (omega arith))
-      (λ _. both-ways Known (eqb (word rest 2) 2001) (judgeCards n 13 rest) _ (cards-known 13 (omega arith) (omega arith))
-      (both-ways Known (eqb (word rest 2) 3002) (judgeCards n 16 rest) _ (cards-known 16 (omega arith) (omega arith))
-      (both-ways Known (eqb (word rest 2) 1002) (judgeData n rest) (refused (answer 5 n 2 0)) data-known (told 5 n 2 0 (omega arith) hn (omega arith) (omega arith)))))
+      (λ _. both-ways KnownBlock (eqb (word rest 2) 2001) (judgeCards n 13 rest) _ (cards-known 13 (omega arith) (omega arith))
+      (both-ways KnownBlock (eqb (word rest 2) 3002) (judgeCards n 16 rest) _ (cards-known 16 (omega arith) (omega arith))
+      (both-ways KnownBlock (eqb (word rest 2) 1002) (judgeData n rest) (refused (answer 5 n 2 0)) data-known (told 5 n 2 0 (omega arith) hn (omega arith) (omega arith)))))
 
-walk-known : (skip n : ℕ) (ws : List ℕ) → n + length ws < 2 ^ 16 → Below 65536 ws → Known (walk skip n ws)
+walk-known : (skip n : ℕ) (ws : List ℕ) → n + length ws < 2 ^ 16 → Below 65536 ws → KnownBlock (walk skip n ws)
 unfolding walk
 walk-known skip n [] h b = omega arith
 walk-known (suc skip) n (w ∷ ws) h b = walk-known skip n ws (omega arith) (b .1)
 walk-known zero n (w ∷ ws) h b =
     by (judgeRecord n (w ∷ ws)) (record-known n (omega arith) (w ∷ ws) (b .0)) (λ k. walk-known (k - 1) (n + 1) ws (omega arith) (b .1))
   where
-    by : (v : Verdict ℕ) → Known v → ((k : ℕ) → Known (walk (k - 1) (n + 1) ws)) → Known (onward v (λ k. walk (k - 1) (n + 1) ws))
+    by : (v : Verdict ℕ) → KnownBlock v → ((k : ℕ) → KnownBlock (walk (k - 1) (n + 1) ws)) → KnownBlock (onward v (λ k. walk (k - 1) (n + 1) ws))
     by (passed k) h on = on k
     by (refused r) h on = h
 
-pub judged-known : (b : List ℕ) → Below 256 b → Known (judged b)
+pub judged-known : (b : List ℕ) → Below 256 b → KnownBlock (judged b)
 unfolding judged
 judged-known b bytes =
     let ws = wordsOf b in
@@ -96,7 +92,7 @@ judged-known b bytes =
     row (wrongSize (length b)) (answer 1 0 0 0) _ (λ _. told 1 0 0 0 (omega arith) (omega arith) (omega arith) (omega arith))
     (λ t. let s = size-right b t in
     row (not (eqb (word ws 1) (length ws))) (answer 2 0 0 0) _ (λ _. told 2 0 0 0 (omega arith) (omega arith) (omega arith) (omega arith))
-    (λ _. row (not (eqb stored (computed ws))) (answer 3 0 0 (ones (bitXor stored (computed ws)))) _
-    (λ _. told 3 0 0 (ones (bitXor stored (computed ws))) (omega arith) (omega arith) (omega arith)
-    (omega (arith, ones-le 16 (bitXor stored (computed ws)) (xor-lt 16 stored (computed ws) (getD-below 65536 ws (length ws - 1) (omega arith) below) (fold-below (take (length ws - 1) ws) front)))))
+    (λ _. row (not (eqb stored (checksumOf ws))) (answer 3 0 0 (ones (bitXor stored (checksumOf ws)))) _
+    (λ _. told 3 0 0 (ones (bitXor stored (checksumOf ws))) (omega arith) (omega arith) (omega arith)
+    (omega (arith, ones-le 16 (bitXor stored (checksumOf ws)) (xor-lt 16 stored (checksumOf ws) (getD-below 65536 ws (length ws - 1) (omega arith) below) (fold-below (take (length ws - 1) ws) front)))))
     (λ _. walk-known 0 1 (inner ws) (omega (arith, length-slice 1 (length ws - 1) ws (omega arith))) (all-drop (λ w. w < 65536) 1 (take (length ws - 1) ws) front))))

@@ -11,7 +11,7 @@ use Rattle.units.specs.Answers.{passed, refused}
 use Rattle.words.specs.Words.{wordsOf}
 use Rattle.words.proofs.Laws.{words-slice}
 use Rattle.record.specs.Judging.{judgeRecord}
-use Rattle.record.proofs.Passed.{passed-room}
+use Rattle.record.proofs.Passed.{passed-size}
 use Rattle.block.specs.Judging.{walk}
 
 -- words that are skipped are as good as gone
@@ -31,7 +31,7 @@ walk-stop n a (w ∷ ws) h e = rw e
 pub walk-on : (n k : ℕ) (rest : List ℕ) → 0 < length rest → judgeRecord n rest ≡ passed k → walk 0 n rest ≡ walk 0 (n + 1) (drop k rest)
 unfolding walk
 walk-on n k [] h e = absurd (omega arith)
-walk-on n zero (w ∷ ws) h e = absurd (omega (arith, passed-room n (w ∷ ws) zero e .least))
+walk-on n zero (w ∷ ws) h e = absurd (omega (arith, passed-size n (w ∷ ws) zero e .least))
 walk-on n (suc k) (w ∷ ws) h e = rw (e, sub-one) (walk-drop k (n + 1) ws)
 
 pub walk-end : (n : ℕ) → walk 0 n [] ≡ passed (n - 1)

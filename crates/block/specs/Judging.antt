@@ -21,8 +21,8 @@ abbrev pub inner : List ℕ → List ℕ
 inner ws = words ws 2 (length ws - 1)
 
 -- "the exclusive or of all the other words": of all but the last
-abbrev pub computed : List ℕ → ℕ
-computed ws = xorAll (take (length ws - 1) ws)
+abbrev pub checksumOf : List ℕ → ℕ
+checksumOf ws = xorAll (take (length ws - 1) ws)
 
 -- record after record: one is judged where it starts and its other words are skipped; n is the next one's number
 unfoldable pub walk : ℕ → ℕ → List ℕ → Verdict ℕ
@@ -37,7 +37,7 @@ judged b =
     let stored = word ws (length ws) in
     if wrongSize (length b) then refused (answer 1 0 0 0)
     else if not (eqb (word ws 1) (length ws)) then refused (answer 2 0 0 0)
-    else if not (eqb stored (computed ws)) then refused (answer 3 0 0 (ones (bitXor stored (computed ws))))
+    else if not (eqb stored (checksumOf ws)) then refused (answer 3 0 0 (ones (bitXor stored (checksumOf ws))))
     else walk 0 1 (inner ws)
 
 -- a block that is accepted, with so many records

@@ -31,10 +31,10 @@ use Rattle.read_columns.specs.declared.Flaw.the-variants as columns
 use Rattle.read_text.specs.declared.Content.{Content}
 use Rattle.read_text.specs.declared.Content.the-variants.{Flawed}
 use Rattle.read_text.specs.declared.Content.the-variants as text
-use Rattle.read_text.specs.declared.Blocked.{Blocked}
-use Rattle.read_text.specs.declared.Blocked.the-variants.{Block}
-use Rattle.read_text.specs.declared.Blocked.the-variants as blocked
-use Rattle.read_text.specs.Cases.{contentOf, blockedOf}
+use Rattle.read_text.specs.declared.Built.{Built}
+use Rattle.read_text.specs.declared.Built.the-variants.{Block}
+use Rattle.read_text.specs.declared.Built.the-variants as blocked
+use Rattle.read_text.specs.Cases.{contentOf, builtOf}
 use Rattle.sheet.specs.declared.Opened.{Opened}
 use Rattle.sheet.specs.declared.Opened.the-variants as sheet
 use Rattle.sheet.specs.Cases.{openedOf}
@@ -145,7 +145,7 @@ pub cedar-lines-agree : CedarLinesAgree
 cedar-lines-agree block text = cedar-written-agree (toLines block text)
 
 -- the case that the numbers of lines to block tell
-blockedCase : Answer → Blocked
+blockedCase : Answer → Built
 blockedCase r =
     let line : Lines = record { 0 = r .a } in
     let column : Bytes = record { 0 = r .b } in
@@ -162,7 +162,7 @@ blockedCase r =
     else if eqb (r .n) 29 then blocked.Short (record { 0 = r .a })
     else blocked.Refused Long
 
-blocked-back : (b : Blocked) → blockedCase (blockedOf b) ≡ b
+blocked-back : (b : Built) → blockedCase (builtOf b) ≡ b
 unfolding blockedCase
 blocked-back (Block size) = refl
 blocked-back (blocked.Short size) = refl
@@ -178,7 +178,7 @@ blocked-back (blocked.Refused (Much line)) = refl
 blocked-back (blocked.Refused Long) = refl
 
 -- the refusal in it
-flawIn : Blocked → Flaw
+flawIn : Built → Flaw
 flawIn (Block size) = Long
 flawIn (blocked.Refused f) = f
 flawIn (blocked.Short size) = Long
@@ -196,7 +196,7 @@ pub content-agrees : ContentAgrees
 content-agrees text r s p q = sym (content-back r) ∙ ap contentCase (same p q) ∙ content-back s
 
 pub block-agrees : BlockAgrees
-block-agrees text block = written-agree blockedOf blockedCase blocked-back (toBlock text block)
+block-agrees text block = written-agree builtOf blockedCase blocked-back (toBlock text block)
 
 pub cedar-block-agrees : CedarBlockAgrees
 cedar-block-agrees text block = cedar-written-agree (toBlock text block)

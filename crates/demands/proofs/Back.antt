@@ -19,8 +19,8 @@ use Rattle.field.specs.Reading.{columns, readField}
 use Rattle.units.proofs.Choosing.{both-ways}
 use Rattle.units.specs.Units.{Line}
 use Rattle.read_columns.specs.Columns.{badColumn, inkFrom, inkAfter, blankAfter, wordIn, number, numbers, blankField, zeroField, zeros}
-use Rattle.read_first_line.specs.Heading.{Shape, card, fields, gives, firstLine}
-use Rattle.read_line.specs.Reading.{rowFields, inState, lineStep, readLines}
+use Rattle.read_first_line.specs.FirstLine.{Shape, card, fields, gives, firstLine}
+use Rattle.read_line.specs.Lines.{rowFields, inState, readLine, readLines}
 use Rattle.read_text.specs.Spelled.{Printed, Readable, Blanks, Spells, SpellsAll, SpellsZero, LineSpells, LinesSpell, no-lines, a-line}
 use Rattle.read_text.proofs.Columns.{no-ink, ink-turn}
 
@@ -77,9 +77,9 @@ blank-bad l h = rw (column 0, column 1, column 2, column 3, column 4, column 5) 
     column : (i : ℕ) → getD l i 32 ≡ 32
     column i = all-getD (λ b. b ≡ 32) l i 32 refl h
 
-pub first-line : (num so : ℕ) (l : Line) (w : ℕ) → Spells l 0 w → inState num so [] l ≡ firstLine num so l
+pub first-line : (num held : ℕ) (l : Line) (w : ℕ) → Spells l 0 w → inState num held [] l ≡ firstLine num held l
 unfolding inState
-first-line num so l w h = simp (ne-eqb (inkFrom 1 l) 0 (λ e. never (blank-bad l (no-ink 1 l (omega arith) e))))
+first-line num held l w h = simp (ne-eqb (inkFrom 1 l) 0 (λ e. never (blank-bad l (no-ink 1 l (omega arith) e))))
   where
     never : readField (columns 6 l 0) ≡ Bad → ⊥
     never b = let z : _≡_ {A = ℕ} 0 1 = cc in omega arith
@@ -131,42 +131,42 @@ ahead-both ws us (passed vs) = ap (λ l. passed l) (sym (append-assoc ws us vs))
 ahead-both ws us (refused r) = refl
 
 -- a line that row 20 accepts
-pub line-back : (num so : ℕ) (rest : List Shape) (l : Line) (ls : List Line) (ws : List ℕ) (more : List Shape)
-    → Readable l → inState num so rest l ≡ gives ws more
-    → readLines num so rest (l ∷ ls) ≡ ahead ws (readLines (suc num) (so + length ws) more ls)
-unfolding readLines lineStep
-line-back num so rest l ls ws more r e = simp (no-bad 1 l (r .bytes) (omega (arith, r .short)), e)
+pub line-back : (num held : ℕ) (rest : List Shape) (l : Line) (ls : List Line) (ws : List ℕ) (more : List Shape)
+    → Readable l → inState num held rest l ≡ gives ws more
+    → readLines num held rest (l ∷ ls) ≡ ahead ws (readLines (suc num) (held + length ws) more ls)
+unfolding readLines readLine
+line-back num held rest l ls ws more r e = simp (no-bad 1 l (r .bytes) (omega (arith, r .short)), e)
 
-blank-line-back : (num so : ℕ) (l : Line) → Blanks l → inState num so [] l ≡ gives [] []
+blank-line-back : (num held : ℕ) (l : Line) → Blanks l → inState num held [] l ≡ gives [] []
 unfolding inState
-blank-line-back num so l h = simp (blank-ink 1 l h)
+blank-line-back num held l h = simp (blank-ink 1 l h)
 
 -- a blank line between records
-pub skip-back : (num so : ℕ) (l : Line) (ls : List Line) → Readable l → Blanks l → readLines num so [] (l ∷ ls) ≡ readLines (suc num) so [] ls
-skip-back num so l ls r h =
-    line-back num so [] l ls [] [] r (blank-line-back num so l h) ∙ ahead-none (readLines (suc num) (so + 0) [] ls) ∙ rw add-zero
+pub skip-back : (num held : ℕ) (l : Line) (ls : List Line) → Readable l → Blanks l → readLines num held [] (l ∷ ls) ≡ readLines (suc num) held [] ls
+skip-back num held l ls r h =
+    line-back num held [] l ls [] [] r (blank-line-back num held l h) ∙ ahead-none (readLines (suc num) (held + 0) [] ls) ∙ rw add-zero
 
 -- a line after a record's first
-later-back : (num so : ℕ) (x : Shape) (rest : List Shape) (l : Line) (ws : List ℕ) → LineSpells x l ws → inState num so (x ∷ rest) l ≡ gives ws rest
+later-back : (num held : ℕ) (x : Shape) (rest : List Shape) (l : Line) (ws : List ℕ) → LineSpells x l ws → inState num held (x ∷ rest) l ≡ gives ws rest
 unfolding inState rowFields
-later-back num so card rest l ws h = rw (blank-back num l 80 (h .1), h .0)
-later-back num so (fields n) rest l ws h =
+later-back num held card rest l ws h = rw (blank-back num l 80 (h .1), h .0)
+later-back num held (fields n) rest l ws h =
     rw (numbers-back num l ws (h .1) 0 n (omega (arith, h .0)), blank-back num l (6 * n) (h .2), take-all n ws (omega (arith, h .0)))
 
 -- ---- the lines still to come of a record
 
 -- the words of a line and those of the lines behind it are the words of both
-pub joins : (ws vs r : List ℕ) (i j so : ℕ) (ls : List Line) → ws ++ vs ≡ r → i ≡ j
-    → ahead ws (ahead vs (readLines i (so + length ws + length vs) [] ls)) ≡ ahead r (readLines j (so + length r) [] ls)
-joins ws vs r i j so ls e f =
-    let s : so + length ws + length vs ≡ so + length r = omega (arith, length-append ws vs, ap length e) in
-    ahead-both ws vs (readLines i (so + length ws + length vs) [] ls) ∙ rw (e, s, f)
+pub joins : (ws vs r : List ℕ) (i j held : ℕ) (ls : List Line) → ws ++ vs ≡ r → i ≡ j
+    → ahead ws (ahead vs (readLines i (held + length ws + length vs) [] ls)) ≡ ahead r (readLines j (held + length r) [] ls)
+joins ws vs r i j held ls e f =
+    let s : held + length ws + length vs ≡ held + length r = omega (arith, length-append ws vs, ap length e) in
+    ahead-both ws vs (readLines i (held + length ws + length vs) [] ls) ∙ rw (e, s, f)
 
 -- and all of them
-pub lines-back : {xs : List Shape} {ms : List Line} {ws : List ℕ} (num so : ℕ) (ls : List Line) → LinesSpell xs ms ws → All Readable ms
-    → readLines num so xs (ms ++ ls) ≡ ahead ws (readLines (num + length ms) (so + length ws) [] ls)
-lines-back num so ls no-lines r = rw (add-zero num, add-zero so) (sym (ahead-none (readLines num so [] ls)))
-lines-back num so ls (a-line {x} {l} {xs} {ls = ms} {vs} ws h on) r =
-    line-back num so (x ∷ xs) l (ms ++ ls) ws xs (r .0) (later-back num so x xs l ws h)
-    ∙ ap (ahead ws) (lines-back (suc num) (so + length ws) ls on (r .1))
-    ∙ joins ws vs (ws ++ vs) (suc num + length ms) (num + suc (length ms)) so ls refl (omega arith)
+pub lines-back : {xs : List Shape} {ms : List Line} {ws : List ℕ} (num held : ℕ) (ls : List Line) → LinesSpell xs ms ws → All Readable ms
+    → readLines num held xs (ms ++ ls) ≡ ahead ws (readLines (num + length ms) (held + length ws) [] ls)
+lines-back num held ls no-lines r = rw (add-zero num, add-zero held) (sym (ahead-none (readLines num held [] ls)))
+lines-back num held ls (a-line {x} {l} {xs} {ls = ms} {vs} ws h on) r =
+    line-back num held (x ∷ xs) l (ms ++ ls) ws xs (r .0) (later-back num held x xs l ws h)
+    ∙ ap (ahead ws) (lines-back (suc num) (held + length ws) ls on (r .1))
+    ∙ joins ws vs (ws ++ vs) (suc num + length ms) (num + suc (length ms)) held ls refl (omega arith)

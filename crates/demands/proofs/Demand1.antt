@@ -19,14 +19,14 @@ use Rattle.block.specs.Judging.{judged}
 use Rattle.block.specs.Records.{recordsOf}
 use Rattle.write_lines.specs.Text.{textOf, toLines}
 use Rattle.write_lines.proofs.Outcome.{outcome-told}
-use Rattle.block.proofs.Known.{Known, judged-known}
+use Rattle.block.proofs.Known.{KnownBlock, judged-known}
 use Rattle.prefix.specs.declared.Letters.{Letters}
 use Rattle.prefix.specs.LookUp.{beside}
 use Rattle.prefix.specs.Table.{table, dashes, prefixOf}
 use Rattle.cedar.specs.Calls.{prefixAnswer}
 use Rattle.read_text.specs.Cases.{TextRow}
 use Rattle.read_text.specs.Block.{readText, wordsIn, toBlock}
-use Rattle.read_text.proofs.Known.{Room, text-known, answer-told}
+use Rattle.read_text.proofs.Known.{WordsFit, text-known, answer-told}
 use Rattle.demands.specs.Demand1.{Judges, JudgeAnswers, PrefixAnswers, LinesAnswers, ContentAnswers, BlockAnswers, Writes, SheetRow, OpenAnswers, StartAnswers, BothAnswer, AmendRow, AmendAnswers, UndoRow, UndoAnswers}
 use Rattle.units.specs.declared.Answer.{Answer}
 use Rattle.units.proofs.Choosing.{by-test, both-ways}
@@ -38,14 +38,14 @@ use Rattle.sheet.specs.Sheets.{Entry, version1, sheetBytes, sheetOf, entriesOf,
 use Rattle.sheet.proofs.Sheets.{sheet-opened}
 use Rattle.amending.specs.Places.{recordNumber, wordNumber, oldValue, recordIn, noRecord, noValue, found, stands}
 use Rattle.amending.specs.Amending.{Both, both, amendable, undoable, lastOf, leaving, onBoth}
-use Rattle.read_text.proofs.Told as told
+use Rattle.units.proofs.Told.{Known}
 
 -- ---- the calls on a block, on a text, and the prefix call
 
 pub judge-answers : JudgeAnswers
 judge-answers block bytes = by (judged block) (judged-known block bytes)
   where
-    by : (v : Verdict ℕ) → Known v → Judges BlockRow v
+    by : (v : Verdict ℕ) → KnownBlock v → Judges BlockRow v
     by (passed k) h = taken-apart (answer 0 k 0 0) (omega arith)
     by (refused r) h = (h .listed, taken-apart r (h .packs))
 
@@ -107,7 +107,7 @@ pub content-answers : ContentAnswers
 unfolding wordsIn
 content-answers text = by (readText text) (text-known text)
   where
-    by : (v : Verdict (List ℕ)) → told.Known (Room 0) v → Judges TextRow (onward v (λ ws. passed (length ws)))
+    by : (v : Verdict (List ℕ)) → Known TextRow (WordsFit 0) v → Judges TextRow (onward v (λ ws. passed (length ws)))
     by (passed ws) h = taken-apart (answer 0 (length ws) 0 0) (omega (arith, h .most))
     by (refused r) h = (h .listed, taken-apart r (h .packs))
 
@@ -175,7 +175,7 @@ on-both Own forty does fine block sheet bytes entries =
         let s = sheet-opened version1 sheet n entries f .0 in fine (recordsOf block) (entriesOf version1 sheet) (only-good block k bytes e .0 .each) (s .most)
     opens k e (refused r) f = rw (opened-refused sheet r f) (row Own 40 0 forty (omega arith) (omega arith))
 
-    judges : (v : Verdict ℕ) → judged block ≡ v → Known v → Fine Own (onward v (λ _. onward (opened version1 sheet) (λ _. on)))
+    judges : (v : Verdict ℕ) → judged block ≡ v → KnownBlock v → Fine Own (onward v (λ _. onward (opened version1 sheet) (λ _. on)))
     judges (passed k) e h = opens k e (opened version1 sheet) refl
     judges (refused r) e h = record { listed = inl (h .listed); packs = h .packs }
 

@@ -22,8 +22,9 @@ use mathlib.Core.Logic.{_⊎_, inl, inr}
 use native.Mathlib.Omega.{arith}
 use Rattle.words.proofs.Writing.{written-either}
 use Rattle.block.specs.Rules.{IsBlock}
-use Rattle.read_text.proofs.Told.{Known}
-use Rattle.read_text.proofs.Known.{Room, text-known}
+use Rattle.units.proofs.Told.{Known}
+use Rattle.read_text.specs.Cases.{TextRow}
+use Rattle.read_text.proofs.Known.{WordsFit, text-known}
 
 pub accepted-exactly : AcceptedExactly
 accepted-exactly b bytes = (λ k e. only-good b k bytes e, λ rs good. every-good b rs good)
@@ -90,7 +91,7 @@ written-accepted t out = by (readText t) refl (text-known t)
         let g = text-gives-block t ws e in
         rw (f, take-append-seam (blockFrom ws) (drop (length (blockFrom ws)) out)) (record { count = length (g .0); is = g .2 })
 
-    by : (v : Verdict (List ℕ)) → readText t ≡ v → Known (Room 0) v → let w = written out (onward v (λ ws. passed (blockFrom ws))) in w .answer .n ≡ 0 → Accepted (bytesIn w)
+    by : (v : Verdict (List ℕ)) → readText t ≡ v → Known TextRow (WordsFit 0) v → let w = written out (onward v (λ ws. passed (blockFrom ws))) in w .answer .n ≡ 0 → Accepted (bytesIn w)
     by (refused r) e h z = absurd (omega (arith, h .listed .0))
     by (passed ws) e h z = taken ws e (written-either out (blockFrom ws)) z
 

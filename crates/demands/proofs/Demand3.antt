@@ -19,7 +19,7 @@ use Rattle.sheet.specs.Rules.{IsEntry}
 use Rattle.sheet.proofs.Sheets.{opened-sheet}
 use Rattle.amending.specs.Amending.{Both, both, amendable, undoable, leaving, onBoth}
 use Rattle.amending.proofs.Steps.{undo-empty}
-use Rattle.demands.specs.Demand3.{Call, amends, undoes, prints, ofBoth, done, doneAll, Buffers, leftBy, fresh, Takes, putIn, stacked, modelled, modelledAll, stackAfter, Accepts, ModelRule, shown, StandingPutIn, LastStands, LinesDiffer, UndoneGivesBack}
+use Rattle.demands.specs.Demand3.{Call, amends, undoes, prints, ofBoth, done, doneAll, Buffers, leftBy, fresh, Takes, putIn, stacked, modelled, modelledAll, stackAfter, MayAmend, ModelRule, asBuffers, StandingPutIn, LastStands, LinesDiffer, UndoneGivesBack}
 use Rattle.demands.proofs.Values.{alike-count}
 use Rattle.demands.proofs.Stack.{putIn-append, putIn-alike, putIn-block, last-stands}
 use Rattle.demands.proofs.AmendedText.{text-size, stack-outside, stack-shows}
@@ -54,7 +54,7 @@ module _ (y : Layout) (rs : List (List ℕ)) (good : IsBlock (blockOf rs) rs) wh
         let o = opened-sheet y (sheetOf y es) es (record { bytes = refl; each = h .each; most = h .most }) in
         rw (still-judged, o .0, o .1, its-records (blockOf ps) ps still-block)
 
-    both-shown : (v : Verdict Both) → Tracks y rs v → (ofBoth (leaving y (blockOf ps) (sheetOf y es) v) ≡ shown y rs (stacked es v)) × Reached y rs (stacked es v .stack)
+    both-shown : (v : Verdict Both) → Tracks y rs v → (ofBoth (leaving y (blockOf ps) (sheetOf y es) v) ≡ asBuffers y rs (stacked es v)) × Reached y rs (stacked es v .stack)
     both-shown (refused r) s = (refl, h)
     both-shown (passed t) s = (rw (s .0) refl, s .1)
 
@@ -70,7 +70,7 @@ module _ (y : Layout) (rs : List (List ℕ)) (good : IsBlock (blockOf rs) rs) wh
 
   -- a call leaves what the model leaves, and that can be reached
   step : (es : List Entry) → Reached y rs es → (c : Call) → Takes y c
-      → (done y (blockOf (putIn rs es)) (sheetOf y es) c ≡ shown y rs (modelled y rs es c)) × Reached y rs (modelled y rs es c .stack)
+      → (done y (blockOf (putIn rs es)) (sheetOf y es) c ≡ asBuffers y rs (modelled y rs es c)) × Reached y rs (modelled y rs es c .stack)
   step es h (amends e) is =
       let p = both-shown es h (amendable y e (both (putIn rs es) es)) (amend-tracks es h e is) in (ap ofBoth (on-both es h (amendable y e)) ∙ p .0, p .1)
   step es h undoes is = let p = both-shown es h (undoable (both (putIn rs es) es)) (undo-tracks es h) in (ap ofBoth (on-both es h undoable) ∙ p .0, p .1)
@@ -85,14 +85,14 @@ module _ (y : Layout) (rs : List (List ℕ)) (good : IsBlock (blockOf rs) rs) wh
 
   -- every call leaves what the model leaves, and an accepted block
   all-shown : (es : List Entry) → Reached y rs es → (cs : List Call) → All (Takes y) cs
-      → (doneAll y (blockOf (putIn rs es)) (sheetOf y es) cs ≡ map (shown y rs) (modelledAll y rs es cs))
+      → (doneAll y (blockOf (putIn rs es)) (sheetOf y es) cs ≡ map (asBuffers y rs) (modelledAll y rs es cs))
       × All (λ d. judged (d .block) ≡ passed (length rs)) (doneAll y (blockOf (putIn rs es)) (sheetOf y es) cs)
   all-shown es h [] a = (refl, tt)
   all-shown es h (c ∷ cs) a =
       let s = step es h c (a .0) in
       let m = modelled y rs es c in
       let rest = all-shown (m .stack) (s .1) cs (a .1) in
-      rw (s .0) (ap (λ l. shown y rs m ∷ l) (rest .0), (still-judged (m .stack) (s .1), rest .1))
+      rw (s .0) (ap (λ l. asBuffers y rs m ∷ l) (rest .0), (still-judged (m .stack) (s .1), rest .1))
 
   -- what all calls leave
   left-shown : (es : List Entry) → Reached y rs es → (cs : List Call) → All (Takes y) cs
@@ -143,7 +143,7 @@ standing-put-in y b k cs bytes accepted takes =
     let rs = recordsOf b in
     let all = all-shown y rs (first-good b k bytes accepted) [] (none-reached y rs) cs takes in
     let each =
-    subst (λ c. (doneAll y c (sheetOf y []) cs ≡ map (shown y rs) (modelledAll y rs [] cs)) × All (λ d. judged (d .block) ≡ passed k) (doneAll y c (sheetOf y []) cs))
+    subst (λ c. (doneAll y c (sheetOf y []) cs ≡ map (asBuffers y rs) (modelledAll y rs [] cs)) × All (λ d. judged (d .block) ≡ passed k) (doneAll y c (sheetOf y []) cs))
     (sym (is-block b k bytes accepted)) (rw (only-good b k bytes accepted .1) at all) in
     (left b k bytes accepted y cs takes .0, each .0, each .1)
 
@@ -158,7 +158,7 @@ model-rule y b k cs bytes accepted takes =
     let good = first-good b k bytes accepted in
     let h = left b k bytes accepted y cs takes .1 in (
       λ e a. ap (stacked es) (amend-accepted y rs es (good .each) h e a) ∙ ap (λ n. record { answer = answer 0 n 0 0; stack = es ++ e ∷ []; out = [] }) (length-append es (e ∷ [])),
-      λ e z. amend-either y rs es (good .each) h e (λ v. stacked es v .answer .n ≡ 0 → Accepts y rs es e) (λ n a l q. absurd (omega arith)) (λ a q. a) z,
+      λ e z. amend-either y rs es (good .each) h e (λ v. stacked es v .answer .n ≡ 0 → MayAmend y rs es e) (λ n a l q. absurd (omega arith)) (λ a q. a) z,
       λ before e q. rw q (model-last y rs good before e (rw q at h)),
       λ q. rw q (ap (stacked []) (undo-empty rs [] refl)),
     )
@@ -174,7 +174,7 @@ undone-gives-back y b k cs bytes accepted takes =
     let t = all-replicate (Takes y) (length es) undoes tt in (
       ap (λ p. leftBy y p all) (l .0) ∙ left-shown y rs good es (l .1) all t .0 ∙ ap (holding y rs) (undone .0) ∙ ap (fresh y) (sym (is-block b k bytes accepted)),
       subst (λ p. All (λ d. d .answer .n ≡ 0) (doneAll y (p .block) (p .sheet) all)) (sym (l .0))
-          (rw (all-shown y rs good es (l .1) all t .0) (all-mapped (λ d. d .answer .n ≡ 0) (shown y rs) (modelledAll y rs es all) (undone .1))),
+          (rw (all-shown y rs good es (l .1) all t .0) (all-mapped (λ d. d .answer .n ≡ 0) (asBuffers y rs) (modelledAll y rs es all) (undone .1))),
     )
 
 pub lines-differ : LinesDiffer

@@ -1,4 +1,4 @@
--- The rows of the paper's examples are computed.
+-- The rows of the paper's examples are worked.
 use mathlib.Core.Path.{refl}
 use lib.Count.{ones, onesIn}
 use Rattle.words.specs.Words.{wordsOf, bytesOf, xorAll, joined, framed}

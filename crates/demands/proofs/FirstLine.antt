@@ -16,8 +16,8 @@ use Rattle.record.proofs.Passed.{least-at}
 use Rattle.line_plan.specs.Plan.{dataPlan, kindShown}
 use Rattle.units.specs.Units.{Line}
 use Rattle.write_lines.proofs.Sizes.{is-cards, data-count}
-use Rattle.read_first_line.specs.Heading.{card, fields, gives, cardsLine, countsIn, planLine, catalogueLine, headerFields, headerLine, countFields, prologueFields, dataLine, kindLine, firstLine}
-use Rattle.read_line.specs.Reading.{inState}
+use Rattle.read_first_line.specs.FirstLine.{card, fields, gives, cardsLine, countsIn, planLine, catalogueLine, headerFields, headerLine, countFields, prologueFields, dataLine, kindLine, firstLine}
+use Rattle.read_line.specs.Lines.{inState}
 use Rattle.read_text.specs.Spelled.{Blanks, SpellsAll, CardsSpelled}
 use Rattle.demands.proofs.Back.{blank-back, first-line, numbers-back, zeros-back}
 
@@ -56,14 +56,14 @@ is-header r h e = by (h .kind)
 
 -- ---- the record, with its first two words apart
 
-module _ (num so a b : ℕ) (ws : List ℕ) where
+module _ (num held a b : ℕ) (ws : List ℕ) where
   abbrev it : List ℕ
   it = a ∷ (b ∷ ws)
 
   abbrev count : ℕ
   count = lineCount it
 
-  module _ (h : RecordOk it) (fits : so + length it ≤ 7998) where
+  module _ (h : RecordOk it) (fits : held + length it ≤ 7998) where
     -- a Catalogue or a Header
     module _ (ne : b ≡ 1002 → ⊥) where
       whole : length it ≡ 40 * count
@@ -74,20 +74,20 @@ module _ (num so a b : ℕ) (ws : List ℕ) where
 
       -- z of its fields behind the first two may be free
       cards-line : (kind shows z : ℕ) → b ≡ kind → z ≤ 38 → Zeros (drop z (take 38 ws))
-          → cardsLine num so kind (count ∷ (shows ∷ take z ws)) ≡ gives (take 40 it) (replicate (count - 1) card)
+          → cardsLine num held kind (count ∷ (shows ∷ take z ws)) ≡ gives (take 40 it) (replicate (count - 1) card)
       unfolding cardsLine
       cards-line kind shows z e k s =
           let w = whole in
           let g = many in
           let t : 40 * count ≡ a = omega (arith, h .total) in
           let m : 40 - suc (suc (length (take z ws))) ≡ 38 - z = omega (arith, length-take-le z ws (omega arith)) in
-          simp (le-ltb count 1 (omega arith), le-ltb 199 count (omega arith), le-ltb 7998 (so + 40 * count) (omega arith))
+          simp (le-ltb count 1 (omega arith), le-ltb 199 count (omega arith), le-ltb 7998 (held + 40 * count) (omega arith))
           (rw (m, zeros-behind z 38 ws k g s) (ap₂ (λ (x y : ℕ). gives (x ∷ (y ∷ take 38 ws)) (replicate (count - 1) card)) t (sym e)))
 
       -- it gives the words before the cards, and the cards are still to come
       module _ (l : Line) (ls : List Line) where
         abbrev CardsGiven : Type 0
-        CardsGiven = inState num so [] l ≡ gives (take 40 it) (replicate (count - 1) card)
+        CardsGiven = inState num held [] l ≡ gives (take 40 it) (replicate (count - 1) card)
 
         pub catalogue-given : b ≡ 2001 → CardsSpelled 12 it l ls → CardsGiven
         unfolding firstLine kindLine catalogueLine
@@ -95,7 +95,7 @@ module _ (num so a b : ℕ) (ws : List ℕ) where
             let kind : kindShown b ≡ 2101 = ap (λ k. kindShown k) e in
             let spells : SpellsAll l 0 (count ∷ (2101 ∷ take 10 ws)) = rw kind at (s .free) in
             let t = length-take-le 10 ws (omega (arith, many)) in
-            first-line num so l count (spells .0)
+            first-line num held l count (spells .0)
             ∙ rw (numbers-back num l (count ∷ (2101 ∷ take 10 ws)) spells 0 12 (omega arith), zeros-back num l 12 8 (s .zeros), take-take 10 10 ws (omega arith))
             (cards-line 2001 2101 10 e (omega arith) (is-catalogue it h e .zeros))
 
@@ -105,7 +105,7 @@ module _ (num so a b : ℕ) (ws : List ℕ) where
             let kind : kindShown b ≡ 3101 = ap (λ k. kindShown k) e in
             let spells : SpellsAll l 0 (count ∷ (3101 ∷ take 13 ws)) = rw kind at (s .free) in
             let t = length-take-le 13 ws (omega (arith, many)) in
-            first-line num so l count (spells .0)
+            first-line num held l count (spells .0)
             ∙ rw (
               numbers-back num l (count ∷ (3101 ∷ take 13 ws)) spells 0 12 (omega arith),
               numbers-back num l (count ∷ (3101 ∷ take 13 ws)) spells 12 3 (omega arith),
@@ -138,13 +138,13 @@ module _ (num so a b : ℕ) (ws : List ℕ) where
           rw (at 14 10 (omega arith), at 14 11 (omega arith), at 14 12 (omega arith), at 14 13 (omega arith))
           (simp (least-at 16 (word it 13) (d .lprol), least-at 0 (word it 14) (d .jpar), least-at 0 (word it 15) (d .mpar), least-at 0 (word it 16) (d .nrow)))
 
-      plan-line : planLine num so front ≡ gives (take (suc (suc q)) it) (map fields (drop 1 (dataPlan it)))
+      plan-line : planLine num held front ≡ gives (take (suc (suc q)) it) (map fields (drop 1 (dataPlan it)))
       unfolding planLine
       plan-line =
           let g = long in
           let n = data-count it (ap (λ k. eqb k 1002) kind) in
           rw (at q 10 (omega arith), at q 11 (omega arith), at q 12 (omega arith), at q 13 (omega arith), ← d .sum)
-          (simp (le-ltb 7998 (so + length it) fits, eq-eqb count (linesNeeded (word it 13) (word it 14) (word it 15) (word it 16)) n)
+          (simp (le-ltb 7998 (held + length it) fits, eq-eqb count (linesNeeded (word it 13) (word it 14) (word it 15) (word it 16)) n)
           (ap₂ (λ (x y : ℕ). gives (x ∷ (y ∷ take q ws)) (map fields (drop 1 (dataPlan it)))) (sym (h .total)) (sym kind)))
 
       -- the fields behind the counts
@@ -154,13 +154,13 @@ module _ (num so a b : ℕ) (ws : List ℕ) where
           (take-all (14 + (suc (suc q) - 16)) (take q ws) (omega (arith, long, length-take q ws)))
 
       -- it gives its words, and the other lines of the plan are still to come
-      pub data-given : (l : Line) → SpellsAll l 0 front → Blanks (drop (6 * suc (suc q)) l) → inState num so [] l ≡ gives (take (suc (suc q)) it) (map fields (drop 1 (dataPlan it)))
+      pub data-given : (l : Line) → SpellsAll l 0 front → Blanks (drop (6 * suc (suc q)) l) → inState num held [] l ≡ gives (take (suc (suc q)) it) (map fields (drop 1 (dataPlan it)))
       unfolding firstLine kindLine dataLine countFields prologueFields
       data-given line spells blank =
           let g = long in
           let l : length front ≡ suc (suc q) = omega (arith, length-take-le q ws room) in
           let e : min (getD (take 14 ws) 10 0) 20 ≡ suc (suc q) = ap (λ k. min k 20) (at 14 10 (omega arith)) ∙ first in
-          first-line num so line count (spells .0)
+          first-line num held line count (spells .0)
           ∙ rw (
             numbers-back num line front spells 0 12 (omega arith),
             numbers-back num line front spells 12 4 (omega arith),

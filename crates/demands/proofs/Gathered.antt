@@ -11,10 +11,10 @@ use Rattle.record.specs.Judging.{wordsNeeded}
 use Rattle.record.specs.Lines.{lineCount}
 use Rattle.record.specs.Rules.{CardWord, CardsOk, DataOk, KindOk, catalogue, header, dataRecord, RecordOk}
 use Rattle.field.specs.Reading.{columns}
-use Rattle.line_plan.specs.Plan.{dataPlan, kindShown, shown}
+use Rattle.line_plan.specs.Plan.{dataPlan, kindShown, shownWords}
 use Rattle.units.specs.Units.{Line}
 use Rattle.write_lines.proofs.Sizes.{is-cards, data-count}
-use Rattle.read_first_line.specs.Heading.{Shape, card, fields, Read}
+use Rattle.read_first_line.specs.FirstLine.{Shape, card, fields, Read}
 use Rattle.read_text.specs.Spelled.{Printed, Readable, LineSpells, LinesSpell, no-lines, a-line, CardsSpelled, RecordSpelled, as-catalogue, as-header, as-data}
 use Rattle.read_columns.proofs.Columns.{columns-all}
 use Rattle.read_text.proofs.Columns.{card-words, words-below}
@@ -48,7 +48,7 @@ cards-printed (suc n) (a-line {l = l} {vs = vs} ws h on) r = all-append CardWord
 
 -- as its first line shows it
 shown-is : (a kind : ℕ) (head more : List ℕ) → 2 ≤ length head → word head 2 ≡ kindShown kind
-    → lineCount (a ∷ (kind ∷ drop 2 head ++ more)) ≡ word head 1 → shown (a ∷ (kind ∷ drop 2 head ++ more)) ≡ head ++ more
+    → lineCount (a ∷ (kind ∷ drop 2 head ++ more)) ≡ word head 1 → shownWords (a ∷ (kind ∷ drop 2 head ++ more)) ≡ head ++ more
 shown-is a kind [] more h e c = absurd (omega arith)
 shown-is a kind (x ∷ []) more h e c = absurd (omega arith)
 shown-is a kind (x ∷ (y ∷ hs)) more h e c = ap₂ (λ (p q : ℕ). p ∷ (q ∷ hs ++ more)) c (sym e)
@@ -59,7 +59,7 @@ pub record Done (r : List ℕ) (ls : List Line) : Type 0 where
   pub spelled : RecordSpelled r ls
 
 -- behind its first line these are its lines
-module _ (so : ℕ) (l : Line) (s : Read) (o : Opens so l s) (now : List Line) (body : List ℕ) (others : LinesSpell (s .rest) now body) (clean : All Readable now) where
+module _ (held : ℕ) (l : Line) (s : Read) (o : Opens held l s) (now : List Line) (body : List ℕ) (others : LinesSpell (s .rest) now body) (clean : All Readable now) where
   -- its first word is their count
   counted : (front : List ℕ) → s .words ≡ front → word front 1 ≡ length (front ++ body)
   counted front e = omega (arith, rw e at (o .total), lines-wide others, length-append front body)
@@ -94,8 +94,8 @@ module _ (so : ℕ) (l : Line) (s : Read) (o : Opens so l s) (now : List Line) (
     cards-spelled c =
         let count = f .is .read .count in
         let whole = ap (λ t. 40 * word head 1 ∷ (kind ∷ t)) (append-assoc (drop 2 head) zeros body) in
-        let shows : shown cards-it ≡ head ++ (zeros ++ body) =
-        ap (λ q. shown q) whole ∙ shown-is (40 * word head 1) kind head (zeros ++ body) (omega arith) (f .is .says ∙ sym showing) (ap lineCount (sym whole) ∙ c) in
+        let shows : shownWords cards-it ≡ head ++ (zeros ++ body) =
+        ap (λ q. shownWords q) whole ∙ shown-is (40 * word head 1) kind head (zeros ++ body) (omega arith) (f .is .says ∙ sym showing) (ap lineCount (sym whole) ∙ c) in
         record {
           free = rw (shows, take-at head (zeros ++ body) (z - 1) count) (f .is .read .spells);
           zeros = f .is .zeros;
@@ -155,7 +155,7 @@ module _ (so : ℕ) (l : Line) (s : Read) (o : Opens so l s) (now : List Line) (
           sum = rw (same 10 (omega arith), same 11 (omega arith), same 12 (omega arith), same 13 (omega arith)) (sym c);
         }
 
-    data-spelled : LinesSpell (map fields (dataPlan data-it)) (l ∷ now) (shown data-it)
+    data-spelled : LinesSpell (map fields (dataPlan data-it)) (l ∷ now) (shownWords data-it)
     data-spelled =
         let turn = plan-turn (word first 13) (word first 14) (word first 15) (word first 16) (omega (arith, f .is .counts .lprol .least-is)) in
         let count : lineCount data-it ≡ word first 1 =

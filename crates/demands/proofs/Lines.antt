@@ -21,7 +21,7 @@ use Rattle.block.proofs.Exact.{every-good, its-records}
 use Rattle.field.specs.Writing.{fieldOf}
 use Rattle.field.proofs.Written.{length-fieldOf}
 use Rattle.write_parts.specs.Laid.{fieldsOf, laid, cardLines, ended}
-use Rattle.line_plan.specs.Plan.{shorter, part, times, plan, dataPlan, shown}
+use Rattle.line_plan.specs.Plan.{shorter, part, times, plan, dataPlan, shownWords}
 use Rattle.write_parts.proofs.Turns.{length-fieldsOf}
 use Rattle.line_plan.proofs.Plans.{fieldsIn, length-plan, fieldsIn-plan}
 use Rattle.write_lines.specs.Lines.{linesOf}
@@ -81,12 +81,12 @@ pub line-width : LineWidth
 line-width r h = by (h .kind)
   where
     cards : eqb (word r 2) 1002 ≡ false → All (λ l. length l ≤ 120) (linesOf r)
-    cards e = rw (cards-lines r e) (fields-width 20 (shown r) (omega arith), cards-width (lineCount r - 1) (drop 40 r))
+    cards e = rw (cards-lines r e) (fields-width 20 (shownWords r) (omega arith), cards-width (lineCount r - 1) (drop 40 r))
 
     by : KindOk r → All (λ l. length l ≤ 120) (linesOf r)
     by (catalogue e c) = cards (ap (λ k. eqb k 1002) e)
     by (header e c) = cards (ap (λ k. eqb k 1002) e)
-    by (dataRecord e d) = rw (data-lines r (ap (λ k. eqb k 1002) e)) (laid-width (dataPlan r) (shown r) (plan-narrow (word r 13) (word r 14) (word r 15) (word r 16)))
+    by (dataRecord e d) = rw (data-lines r (ap (λ k. eqb k 1002) e)) (laid-width (dataPlan r) (shownWords r) (plan-narrow (word r 13) (word r 14) (word r 15) (word r 16)))
 
 -- ---- the largest text
 

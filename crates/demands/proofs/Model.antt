@@ -21,7 +21,7 @@ use Rattle.amending.specs.Places.{recordNumber, wordNumber, oldValue, newValue,
 use Rattle.amending.specs.Amending.{Both, both, amendable, lastOf, othersOf, undoable}
 use Rattle.amending.proofs.Named.{is-record, Named}
 use Rattle.amending.proofs.Steps.{amend-passes, undo-standing, it-stands}
-use Rattle.demands.specs.Demand3.{putIn, Accepts}
+use Rattle.demands.specs.Demand3.{putIn, MayAmend}
 use Rattle.demands.proofs.Values.{Alike, amended-alike, amended-found, put-back, alike-count, alike-value, alike-named}
 use Rattle.demands.proofs.Stack.{Stack, putIn-append, stack-append, stack-parts, putIn-good, putIn-alike}
 
@@ -46,7 +46,7 @@ module _ (y : Layout) (rs : List (List ℕ)) (es : List Entry) (good : All Recor
 
   module _ (e : Entry) where
     told : leb (y .limit) (length es) ≡ false → (1 ≤ recordNumber e) × (recordNumber e ≤ length ps) → isValue (recordIn ps (recordNumber e)) (wordNumber e) ≡ true
-        → oldValue e ≡ found ps e → Accepts y rs es e
+        → oldValue e ≡ found ps e → MayAmend y rs es e
     told room has value old =
         record {
           room = leb-false (y .limit) (length es) room;
@@ -56,12 +56,12 @@ module _ (y : Layout) (rs : List (List ℕ)) (es : List Entry) (good : All Recor
         }
 
     -- it names a value of the records as they are
-    named : Accepts y rs es e → Named ps e
+    named : MayAmend y rs es e → Named ps e
     named a = alike-named rs ps alike e (record { least = a .record-is .0; most = a .record-is .1; value = a .value })
 
     -- it is refused, or it is an amendment and stands last
     pub amend-either : (P : Verdict Both → Type 0) → ((n a : ℕ) → 0 < n → P (refused (answer n a 0 0)))
-        → (Accepts y rs es e → P (passed (both (withValue ps e (newValue e)) (es ++ e ∷ [])))) → P (amendable y e (both ps es))
+        → (MayAmend y rs es e → P (passed (both (withValue ps e (newValue e)) (es ++ e ∷ [])))) → P (amendable y e (both ps es))
     unfolding amendable
     amend-either P refuses accepts =
         by-test P (leb (y .limit) (length es)) _ _ (λ _. refuses 44 0 (omega arith)) λ room.
@@ -71,11 +71,11 @@ module _ (y : Layout) (rs : List (List ℕ)) (es : List Entry) (good : All Recor
         accepts (told room (is-record ps (recordNumber e) has) (not-false _ value) (eqb-true (oldValue e) (found ps e) (not-false _ old)))
 
     -- an amendment is not refused
-    pub amend-accepted : Accepts y rs es e → amendable y e (both ps es) ≡ passed (both (withValue ps e (newValue e)) (es ++ e ∷ []))
+    pub amend-accepted : MayAmend y rs es e → amendable y e (both ps es) ≡ passed (both (withValue ps e (newValue e)) (es ++ e ∷ []))
     amend-accepted a = amend-passes y e ps es (a .room) (named a) (sym (a .old))
 
     -- and the stack can be reached with it
-    pub reached-on : IsEntry y e → Accepts y rs es e → Reached y rs (es ++ e ∷ [])
+    pub reached-on : IsEntry y e → MayAmend y rs es e → Reached y rs (es ++ e ∷ [])
     reached-on is a =
         record {
           each = all-append (IsEntry y) es (e ∷ []) (h .each) (is, tt);

@@ -13,12 +13,13 @@ use Rattle.words.proofs.Lists.{all-append}
 use Rattle.record.specs.Rules.{RecordOk}
 use Rattle.block.proofs.Exact.{some-record}
 use Rattle.units.specs.Units.{Line}
-use Rattle.read_cut.specs.Cutting.{linesIn}
-use Rattle.read_first_line.specs.Heading.{Shape, Read}
-use Rattle.read_line.specs.Reading.{lineStep, atEnd, readLines}
+use Rattle.read_cut.specs.Lines.{linesIn}
+use Rattle.read_first_line.specs.FirstLine.{Shape, Read}
+use Rattle.read_line.specs.Lines.{readLine, atEnd, readLines}
 use Rattle.read_text.specs.Block.{readText}
 use Rattle.read_text.specs.Spelled.{Readable, Blanks, LinesSpell, no-lines, a-line, Spelled, at-end, blank-line, a-record}
-use Rattle.read_text.proofs.Told.{Known}
+use Rattle.units.proofs.Told.{Known}
+use Rattle.read_text.specs.Cases.{TextRow}
 use Rattle.read_text.proofs.Opened.{wordsToCome, Opens, skipped, opens, Given, Taken, line-known}
 use Rattle.read_text.proofs.Known.{lines-most, room-on, words-room}
 use Rattle.demands.specs.Texts.{IsText}
@@ -61,7 +62,7 @@ settled ls ws b =
     rw (e, f) (b .whole)
 
 -- a line, and the lines behind it
-module _ (so : ℕ) (l : Line) (s : Read) (ls : List Line) (ws : List ℕ) (r : Readable l) where
+module _ (held : ℕ) (l : Line) (s : Read) (ls : List Line) (ws : List ℕ) (r : Readable l) where
   blank-before : Blanks l → Whole ls ws → Whole (l ∷ ls) ws
   blank-before b w = record { records = w .records; words = w .words; spelled = blank-line b (w .spelled); readable = (r, w .readable); each = w .each }
 
@@ -69,10 +70,10 @@ module _ (so : ℕ) (l : Line) (s : Read) (ls : List Line) (ws : List ℕ) (r : 
     words-on : s .words ++ ws ≡ (s .words ++ b .body) ++ b .others
     words-on = ap (λ t. s .words ++ t) (b .words) ∙ sym (append-assoc (s .words) (b .body) (b .others))
 
-    record-before : Opens so l s → Whole (l ∷ ls) (s .words ++ ws)
+    record-before : Opens held l s → Whole (l ∷ ls) (s .words ++ ws)
     unfolding joined
     record-before o =
-        let d = done so l s o (b .now) (b .body) (b .spelled) (b .readable) in
+        let d = done held l s o (b .now) (b .body) (b .spelled) (b .readable) in
         let w = b .whole in
         record {
           records = (s .words ++ b .body) ∷ w .records;
@@ -82,7 +83,7 @@ module _ (so : ℕ) (l : Line) (s : Read) (ls : List Line) (ws : List ℕ) (r : 
           each = (d .ok, w .each);
         }
 
-    line-before : (rest : List Shape) → Given so rest l s → Behind rest (l ∷ ls) (s .words ++ ws)
+    line-before : (rest : List Shape) → Given held rest l s → Behind rest (l ∷ ls) (s .words ++ ws)
     line-before (x ∷ rest) g =
         record {
           now = l ∷ b .now;
@@ -99,30 +100,30 @@ module _ (so : ℕ) (l : Line) (s : Read) (ls : List Line) (ws : List ℕ) (r : 
     line-before [] (opens o) = between (l ∷ ls) (s .words ++ ws) (record-before o)
 
 -- at the end of the text
-no-more : (num so : ℕ) (rest : List Shape) (ws : List ℕ) → atEnd num so rest ≡ passed ws → Behind rest [] ws
+no-more : (num held : ℕ) (rest : List Shape) (ws : List ℕ) → atEnd num held rest ≡ passed ws → Behind rest [] ws
 unfolding atEnd joined
-no-more num so (x ∷ rest) ws e = absurd (never-passed e)
-no-more num so [] ws e =
-    let p = else-passed (eqb so 0) (answer 21 0 0 0) (passed []) ws e .1 in
+no-more num held (x ∷ rest) ws e = absurd (never-passed e)
+no-more num held [] ws e =
+    let p = else-passed (eqb held 0) (answer 21 0 0 0) (passed []) ws e .1 in
     let none : ws ≡ [] = cc in
     between [] ws (record { records = []; words = none; spelled = at-end; readable = tt; each = tt })
 
 -- what the lines give from here is what they spell
-each-line : (num so : ℕ) (rest : List Shape) (ls : List Line) (ws : List ℕ) → num + length ls < 2 ^ 24 → so + wordsToCome rest ≤ 7998 → readLines num so rest ls ≡ passed ws → Behind rest ls ws
+each-line : (num held : ℕ) (rest : List Shape) (ls : List Line) (ws : List ℕ) → num + length ls < 2 ^ 24 → held + wordsToCome rest ≤ 7998 → readLines num held rest ls ≡ passed ws → Behind rest ls ws
 unfolding readLines
-each-line num so rest [] ws hn h e = no-more num so rest ws e
-each-line num so rest (l ∷ ls) ws hn h e =
-    by (lineStep num so rest l) (line-known num (omega arith) so l rest h)
-    (λ s. each-line (suc num) (so + length (s .words)) (s .rest) ls) e
+each-line num held rest [] ws hn h e = no-more num held rest ws e
+each-line num held rest (l ∷ ls) ws hn h e =
+    by (readLine num held rest l) (line-known num (omega arith) held l rest h)
+    (λ s. each-line (suc num) (held + length (s .words)) (s .rest) ls) e
   where
-    last : (s : Read) → Taken so rest l s → (v : Verdict (List ℕ)) → ((vs : List ℕ) → v ≡ passed vs → Behind (s .rest) ls vs) → onward v (λ vs. passed (s .words ++ vs)) ≡ passed ws → Behind rest (l ∷ ls) ws
-    last s g (passed vs) ih e = let words : ws ≡ s .words ++ vs = cc in rw words (line-before so l s ls vs (g .readable) (ih vs refl) rest (g .given))
+    last : (s : Read) → Taken held rest l s → (v : Verdict (List ℕ)) → ((vs : List ℕ) → v ≡ passed vs → Behind (s .rest) ls vs) → onward v (λ vs. passed (s .words ++ vs)) ≡ passed ws → Behind rest (l ∷ ls) ws
+    last s g (passed vs) ih e = let words : ws ≡ s .words ++ vs = cc in rw words (line-before held l s ls vs (g .readable) (ih vs refl) rest (g .given))
     last s g (refused r) ih e = absurd (never-passed e)
 
-    by : (v : Verdict Read) → Known (Taken so rest l) v
-        → ((s : Read) → (vs : List ℕ) → suc num + length ls < 2 ^ 24 → so + length (s .words) + wordsToCome (s .rest) ≤ 7998 → readLines (suc num) (so + length (s .words)) (s .rest) ls ≡ passed vs → Behind (s .rest) ls vs)
-        → onward v (λ s. onward (readLines (suc num) (so + length (s .words)) (s .rest) ls) (λ vs. passed (s .words ++ vs))) ≡ passed ws → Behind rest (l ∷ ls) ws
-    by (passed s) g ih e = last s g (readLines (suc num) (so + length (s .words)) (s .rest) ls) (λ vs. ih s vs (omega arith) (room-on so rest l s h (g .given))) e
+    by : (v : Verdict Read) → Known TextRow (Taken held rest l) v
+        → ((s : Read) → (vs : List ℕ) → suc num + length ls < 2 ^ 24 → held + length (s .words) + wordsToCome (s .rest) ≤ 7998 → readLines (suc num) (held + length (s .words)) (s .rest) ls ≡ passed vs → Behind (s .rest) ls vs)
+        → onward v (λ s. onward (readLines (suc num) (held + length (s .words)) (s .rest) ls) (λ vs. passed (s .words ++ vs))) ≡ passed ws → Behind rest (l ∷ ls) ws
+    by (passed s) g ih e = last s g (readLines (suc num) (held + length (s .words)) (s .rest) ls) (λ vs. ih s vs (omega arith) (room-on held rest l s h (g .given))) e
     by (refused r) g ih e = absurd (never-passed e)
 
 -- ---- a text

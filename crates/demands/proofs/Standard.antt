@@ -21,16 +21,16 @@ use Rattle.field.proofs.Written.{length-fieldOf, bytes-fieldOf}
 use Rattle.field.proofs.Back.{read-written}
 use Rattle.units.proofs.Choosing.{both-ways}
 use Rattle.write_parts.specs.Laid.{fieldsOf, laid, cardLines, ended}
-use Rattle.line_plan.specs.Plan.{dataPlan, kindShown, shown}
+use Rattle.line_plan.specs.Plan.{dataPlan, kindShown, shownWords}
 use Rattle.units.specs.Units.{Line}
 use Rattle.write_parts.proofs.Turns.{length-fieldsOf}
 use Rattle.line_plan.proofs.Plans.{fieldsIn, fieldsIn-plan}
 use Rattle.write_lines.specs.Lines.{linesOf}
 use Rattle.write_lines.specs.Text.{textOf}
 use Rattle.write_lines.proofs.Sizes.{sized, is-cards, cards-lines, data-lines, text-most}
-use Rattle.read_cut.specs.Cutting.{onto, linesIn, endLength}
+use Rattle.read_cut.specs.Lines.{onto, linesIn, endLength}
 use Rattle.read_columns.proofs.Columns.{columns-full}
-use Rattle.read_first_line.specs.Heading.{card, fields}
+use Rattle.read_first_line.specs.FirstLine.{card, fields}
 use Rattle.read_text.specs.Block.{readText}
 use Rattle.read_text.specs.Spelled.{Printed, Readable, Blanks, Spells, SpellsAll, LineSpells, LinesSpell, no-lines, a-line, CardsSpelled, RecordSpelled, as-catalogue, as-header, as-data, Spelled, at-end, a-record}
 use Rattle.demands.proofs.Lines.{line-width}
@@ -158,37 +158,37 @@ kind-below k =
     both-ways (λ w. w < 65536) (eqb k 2001) 2101 _ (omega arith) (both-ways (λ w. w < 65536) (eqb k 3002) 3101 1101 (omega arith) (omega arith))
 
 module _ (r : List ℕ) (h : RecordOk r) where
-  shown-below : Below 65536 (shown r)
+  shown-below : Below 65536 (shownWords r)
   shown-below =
       let total = getD-below 65536 r 0 (omega arith) (h .sized) in
       (omega (arith, sized r h .count-most, h .total), (kind-below (word r 2), all-drop (λ w. w < 65536) 2 r (h .sized)))
 
-  shown-same : (k : ℕ) → 2 ≤ k → getD (shown r) k 0 ≡ getD r k 0
+  shown-same : (k : ℕ) → 2 ≤ k → getD (shownWords r) k 0 ≡ getD r k 0
   shown-same zero low = absurd (omega arith)
   shown-same (suc zero) low = absurd (omega arith)
   shown-same (suc (suc k)) low = getD-drop 2 r k 0 ∙ ap (λ i. getD r i 0) (omega arith)
 
   -- a Catalogue or a Header
   module _ (ne : word r 2 ≡ 1002 → ⊥) where
-    its-lines : linesOf r ≡ fieldsOf (take 20 (shown r)) ∷ cardLines (lineCount r - 1) (drop 40 r)
+    its-lines : linesOf r ≡ fieldsOf (take 20 (shownWords r)) ∷ cardLines (lineCount r - 1) (drop 40 r)
     its-lines = cards-lines r (ne-eqb (word r 2) 1002 ne)
 
-    cards-spelled : (z : ℕ) → 3 ≤ z → z ≤ 21 → CardsOk z r → CardsSpelled (z - 1) r (fieldsOf (take 20 (shown r))) (cardLines (lineCount r - 1) (drop 40 r))
+    cards-spelled : (z : ℕ) → 3 ≤ z → z ≤ 21 → CardsOk z r → CardsSpelled (z - 1) r (fieldsOf (take 20 (shownWords r))) (cardLines (lineCount r - 1) (drop 40 r))
     cards-spelled z low high c =
-        let row = take 20 (shown r) in
+        let row = take 20 (shownWords r) in
         let count = is-cards r h ne .count in
-        let size : length row ≡ 20 = length-take-le 20 (shown r) (omega (arith, length-drop 2 r, c .size)) in
-        let below = all-take (λ w. w < 65536) 20 (shown r) shown-below in
+        let size : length row ≡ 20 = length-take-le 20 (shownWords r) (omega (arith, length-drop 2 r, c .size)) in
+        let below = all-take (λ w. w < 65536) 20 (shownWords r) shown-below in
         let zero : (k : ℕ) → z - 1 ≤ k → k < 20 → getD row k 0 ≡ 0 =
-        λ k from to. getD-take 20 (shown r) k 0 to ∙ shown-same k (omega arith) ∙ zero-word (z - 1) r (c .zeros) k from (omega arith) in
+        λ k from to. getD-take 20 (shownWords r) k 0 to ∙ shown-same k (omega arith) ∙ zero-word (z - 1) r (c .zeros) k from (omega arith) in
         record {
-          free = rw (take-take (z - 1) 20 (shown r) (omega arith)) at (spells-take (fieldsOf row) 0 (z - 1) row (fields-spell row below));
+          free = rw (take-take (z - 1) 20 (shownWords r) (omega arith)) at (spells-take (fieldsOf row) 0 (z - 1) row (fields-spell row below));
           zeros = λ k from to. inr (word-spelled row below k (omega arith) ∙ ap (λ w. Word w) (zero k from to));
           cards = cards-spell (lineCount r - 1) (drop 40 r) (omega (arith, length-drop 40 r, c .size));
         }
 
     cards-lines-printed : (z : ℕ) → CardsOk z r → All (All Printed) (linesOf r)
-    cards-lines-printed z c = rw its-lines (fields-printed (take 20 (shown r)), cards-printed (lineCount r - 1) (drop 40 r) (rw (take-length r) at (c .printed)))
+    cards-lines-printed z c = rw its-lines (fields-printed (take 20 (shownWords r)), cards-printed (lineCount r - 1) (drop 40 r) (rw (take-length r) at (c .printed)))
 
   lines-spelled : RecordSpelled r (linesOf r)
   lines-spelled = by (h .kind)
@@ -198,7 +198,7 @@ module _ (r : List ℕ) (h : RecordOk r) where
       by (header e c) = rw (its-lines (λ f. omega arith)) (as-header e (cards-spelled (λ f. omega arith) 16 (omega arith) (omega arith) c))
       by (dataRecord e d) =
           let all = fieldsIn-plan (word r 13) (word r 14) (word r 15) (word r 16) in
-          rw (data-lines r (ap (λ k. eqb k 1002) e)) (as-data e (laid-spell (dataPlan r) (shown r) (omega (arith, d .sum, d .lprol .least-is, length-drop 2 r)) shown-below))
+          rw (data-lines r (ap (λ k. eqb k 1002) e)) (as-data e (laid-spell (dataPlan r) (shownWords r) (omega (arith, d .sum, d .lprol .least-is, length-drop 2 r)) shown-below))
 
   lines-printed : All (All Printed) (linesOf r)
   lines-printed = by (h .kind)
@@ -206,7 +206,7 @@ module _ (r : List ℕ) (h : RecordOk r) where
       by : KindOk r → All (All Printed) (linesOf r)
       by (catalogue e c) = cards-lines-printed (λ f. omega arith) 13 c
       by (header e c) = cards-lines-printed (λ f. omega arith) 16 c
-      by (dataRecord e d) = rw (data-lines r (ap (λ k. eqb k 1002) e)) (laid-printed (dataPlan r) (shown r))
+      by (dataRecord e d) = rw (data-lines r (ap (λ k. eqb k 1002) e)) (laid-printed (dataPlan r) (shownWords r))
 
 -- ---- a text
 

@@ -13,10 +13,10 @@ use Rattle.words.proofs.Lists.{all-parts}
 use Rattle.record.specs.Lines.{lineCount}
 use Rattle.record.specs.Rules.{RecordOk}
 use Rattle.block.proofs.Exact.{ok-long}
-use Rattle.line_plan.specs.Plan.{dataPlan, kindShown, shown}
+use Rattle.line_plan.specs.Plan.{dataPlan, kindShown, shownWords}
 use Rattle.units.specs.Units.{Line}
-use Rattle.read_first_line.specs.Heading.{Shape, card, fields, gives}
-use Rattle.read_line.specs.Reading.{inState, atEnd, readLines}
+use Rattle.read_first_line.specs.FirstLine.{Shape, card, fields, gives}
+use Rattle.read_line.specs.Lines.{inState, atEnd, readLines}
 use Rattle.read_text.specs.Block.{readText}
 use Rattle.read_text.specs.Spelled.{Readable, LineSpells, LinesSpell, a-line, RecordSpelled, as-catalogue, as-header, as-data, Spelled, at-end, blank-line, a-record}
 use Rattle.read_text.proofs.Opened.{plan-turn}
@@ -42,21 +42,21 @@ record Apart (x : Shape) (xs : List Shape) (ms : List Line) (ws : List ℕ) : Ty
 apart : {x : Shape} {xs : List Shape} {ms : List Line} {ws : List ℕ} → LinesSpell (x ∷ xs) ms ws → Apart x xs ms ws
 apart (a-line {l = l} {ls = ls} {vs = vs} ws h on) = record { line = l; lines = ls; here = ws; behind = vs; are = refl; words = refl; spells = h; others = on }
 
-module _ (num so a b : ℕ) (ws : List ℕ) (ls : List Line) where
+module _ (num held a b : ℕ) (ws : List ℕ) (ls : List Line) where
   abbrev it : List ℕ
   it = a ∷ (b ∷ ws)
 
   -- the lines of the record give its words, in front of what the lines behind them give
   abbrev ReadBack : List Line → Type 0
-  ReadBack ms = readLines num so [] (ms ++ ls) ≡ ahead it (readLines (num + length ms) (so + length it) [] ls)
+  ReadBack ms = readLines num held [] (ms ++ ls) ≡ ahead it (readLines (num + length ms) (held + length it) [] ls)
 
-  module _ (h : RecordOk it) (fits : so + length it ≤ 7998) where
+  module _ (h : RecordOk it) (fits : held + length it ≤ 7998) where
     -- its first line gives some of its words, and the others are still to come
-    goes-on : (p : ℕ) (xs : List Shape) (l : Line) (ms : List Line) → All Readable (l ∷ ms) → inState num so [] l ≡ gives (take p it) xs → LinesSpell xs ms (drop p it) → ReadBack (l ∷ ms)
+    goes-on : (p : ℕ) (xs : List Shape) (l : Line) (ms : List Line) → All Readable (l ∷ ms) → inState num held [] l ≡ gives (take p it) xs → LinesSpell xs ms (drop p it) → ReadBack (l ∷ ms)
     goes-on p xs l ms r e on =
-        line-back num so [] l (ms ++ ls) (take p it) xs (r .0) e
-        ∙ ap (ahead (take p it)) (lines-back (suc num) (so + length (take p it)) ls on (r .1))
-        ∙ joins (take p it) (drop p it) it (suc num + length ms) (num + suc (length ms)) so ls (take-append-drop p it) (omega arith)
+        line-back num held [] l (ms ++ ls) (take p it) xs (r .0) e
+        ∙ ap (ahead (take p it)) (lines-back (suc num) (held + length (take p it)) ls on (r .1))
+        ∙ joins (take p it) (drop p it) it (suc num + length ms) (num + suc (length ms)) held ls (take-append-drop p it) (omega arith)
 
     -- a Data record: q words behind the first two stand on its first line, and the others on the lines behind it
     module _ (ms : List Line) (r : All Readable ms) (kind : b ≡ 1002) (q : ℕ) (first : min (word it 13) 20 ≡ suc (suc q)) where
@@ -70,10 +70,10 @@ module _ (num so a b : ℕ) (ws : List ℕ) (ls : List Line) where
           let behind : c .behind ≡ drop q ws = sym (ap (drop p) (c .words) ∙ drop-at (c .here) (c .behind) p (c .spells .0)) in
           rw (c .are)
           (goes-on p more (c .line) (c .lines) (rw (c .are) at r)
-          (data-given num so a b ws h fits kind q first (c .line) (rw here at (c .spells .1)) (c .spells .2))
+          (data-given num held a b ws h fits kind q first (c .line) (rw here at (c .spells .1)) (c .spells .2))
           (rw behind at (c .others)))
 
-      data-read : LinesSpell (map fields (dataPlan it)) ms (shown it) → ReadBack ms
+      data-read : LinesSpell (map fields (dataPlan it)) ms (shownWords it) → ReadBack ms
       data-read s =
           let turn = plan-turn (word it 13) (word it 14) (word it 15) (word it 16) (omega (arith, is-data it h kind .lprol .least-is)) in
           let shows : kindShown b ≡ 1101 = ap (λ k. kindShown k) kind in
@@ -81,29 +81,29 @@ module _ (num so a b : ℕ) (ws : List ℕ) (ls : List Line) where
 
     -- a record of any kind
     record-read : (ms : List Line) → All Readable ms → RecordSpelled it ms → ReadBack ms
-    record-read ms r (as-catalogue {l} {ls = ms'} e s) = goes-on 40 (replicate (lineCount it - 1) card) l ms' r (catalogue-given num so a b ws h fits (λ f. omega arith) l ms' e s) (s .cards)
-    record-read ms r (as-header {l} {ls = ms'} e s) = goes-on 40 (replicate (lineCount it - 1) card) l ms' r (header-given num so a b ws h fits (λ f. omega arith) l ms' e s) (s .cards)
+    record-read ms r (as-catalogue {l} {ls = ms'} e s) = goes-on 40 (replicate (lineCount it - 1) card) l ms' r (catalogue-given num held a b ws h fits (λ f. omega arith) l ms' e s) (s .cards)
+    record-read ms r (as-header {l} {ls = ms'} e s) = goes-on 40 (replicate (lineCount it - 1) card) l ms' r (header-given num held a b ws h fits (λ f. omega arith) l ms' e s) (s .cards)
     record-read ms r (as-data e s) = data-read ms r e (min (word it 13) 20 - 2) (omega (arith, is-data it h e .lprol .least-is)) s
 
-record-back : (r : List ℕ) (num so : ℕ) (ms ls : List Line) → RecordOk r → so + length r ≤ 7998 → All Readable ms → RecordSpelled r ms
-    → readLines num so [] (ms ++ ls) ≡ ahead r (readLines (num + length ms) (so + length r) [] ls)
-record-back [] num so ms ls h fits r s = absurd (omega (arith, ok-long [] h))
-record-back (a ∷ []) num so ms ls h fits r s = absurd (omega (arith, ok-long (a ∷ []) h))
-record-back (a ∷ (b ∷ ws)) num so ms ls h fits r s = record-read num so a b ws ls h fits ms r s
+record-back : (r : List ℕ) (num held : ℕ) (ms ls : List Line) → RecordOk r → held + length r ≤ 7998 → All Readable ms → RecordSpelled r ms
+    → readLines num held [] (ms ++ ls) ≡ ahead r (readLines (num + length ms) (held + length r) [] ls)
+record-back [] num held ms ls h fits r s = absurd (omega (arith, ok-long [] h))
+record-back (a ∷ []) num held ms ls h fits r s = absurd (omega (arith, ok-long (a ∷ []) h))
+record-back (a ∷ (b ∷ ws)) num held ms ls h fits r s = record-read num held a b ws ls h fits ms r s
 
 -- ---- a text
 
 -- some records, or records behind words that were read already
-spelled-back : {ls : List Line} {rs : List (List ℕ)} (num so : ℕ) → Spelled ls rs → All Readable ls → All RecordOk rs → so + length (joined rs) ≤ 7998 → 1 ≤ so + length rs
-    → readLines num so [] ls ≡ passed (joined rs)
+spelled-back : {ls : List Line} {rs : List (List ℕ)} (num held : ℕ) → Spelled ls rs → All Readable ls → All RecordOk rs → held + length (joined rs) ≤ 7998 → 1 ≤ held + length rs
+    → readLines num held [] ls ≡ passed (joined rs)
 unfolding readLines atEnd joined
-spelled-back num so at-end r h fits some = simp (ne-eqb so 0 (λ e. omega arith))
-spelled-back num so (blank-line {l} {ls} b s) r h fits some = skip-back num so l ls (r .0) b ∙ spelled-back (suc num) so s (r .1) h fits some
-spelled-back num so (a-record {r = q} {ms} {ls} {rs} k s) r h fits some =
+spelled-back num held at-end r h fits some = simp (ne-eqb held 0 (λ e. omega arith))
+spelled-back num held (blank-line {l} {ls} b s) r h fits some = skip-back num held l ls (r .0) b ∙ spelled-back (suc num) held s (r .1) h fits some
+spelled-back num held (a-record {r = q} {ms} {ls} {rs} k s) r h fits some =
     let l = length-append q (joined rs) in
     let p = all-parts Readable ms ls r in
-    record-back q num so ms ls (h .0) (omega arith) (p .0) k
-    ∙ ap (ahead q) (spelled-back (num + length ms) (so + length q) s (p .1) (h .1) (omega arith) (omega (arith, ok-long q (h .0))))
+    record-back q num held ms ls (h .0) (omega arith) (p .0) k
+    ∙ ap (ahead q) (spelled-back (num + length ms) (held + length q) s (p .1) (h .1) (omega arith) (omega (arith, ok-long q (h .0))))
 
 -- every text of good records is accepted, and read as their words
 pub text-read : (t : List ℕ) (rs : List (List ℕ)) → IsText t rs → readText t ≡ passed (joined rs)

@@ -15,7 +15,7 @@ use Rattle.words.specs.Writing.{Put}
 use Rattle.write_lines.specs.Cases.{linedOf}
 use Rattle.write_lines.specs.Text.{toLines}
 use Rattle.read_text.specs.declared.Content.{Content}
-use Rattle.read_text.specs.Cases.{contentOf, blockedOf}
+use Rattle.read_text.specs.Cases.{contentOf, builtOf}
 use Rattle.read_text.specs.Block.{wordsIn, toBlock}
 use Rattle.sheet.specs.declared.Opened.{Opened}
 use Rattle.sheet.specs.Cases.{openedOf}
@@ -72,7 +72,7 @@ ContentAgrees = (text : List ℕ) (r s : Content) → contentOf r ≡ wordsIn te
 
 -- `read_text::to_block`
 abbrev pub BlockAgrees : Type 0
-BlockAgrees = (text block : List ℕ) → WrittenAgree blockedOf (toBlock text block)
+BlockAgrees = (text block : List ℕ) → WrittenAgree builtOf (toBlock text block)
 
 -- `cedar_to_block`
 abbrev pub CedarBlockAgrees : Type 0

@@ -23,17 +23,17 @@ use Rattle.cedar.specs.Calls.{prefixAnswer}
 -- ---- the numbers of an answer
 
 -- the four numbers that a C caller takes out of the one it was given
-abbrev pub Kept : Answer → Type 0
-Kept r = takenApart (packedOf r) ≡ r
+abbrev pub Unpacks : Answer → Type 0
+Unpacks r = takenApart (packedOf r) ≡ r
 
 -- "Success is n = 0"; else n is one of these rows
 abbrev pub Numbered : (ℕ → Type 0) → Answer → Type 0
-Numbered Row r = ((r .n ≡ 0) ⊎ Row (r .n)) × Kept r
+Numbered Row r = ((r .n ≡ 0) ⊎ Row (r .n)) × Unpacks r
 
 -- a judgement: what is refused has the number of one of these rows
 abbrev pub Judges : (ℕ → Type 0) → Verdict ℕ → Type 0
-Judges Row (passed a) = Kept (answer 0 a 0 0)
-Judges Row (refused r) = Row (r .n) × Kept r
+Judges Row (passed a) = Unpacks (answer 0 a 0 0)
+Judges Row (refused r) = Row (r .n) × Unpacks r
 
 -- what a call on one lent buffer leaves: "Every refusal leaves every buffer untouched"
 abbrev pub Writes : (ℕ → Type 0) → List ℕ → Written → Type 0
@@ -69,7 +69,7 @@ StartAnswers = (sheet : List ℕ) → Writes SheetRow sheet (started version1 sh
 
 -- "The prefix call always succeeds"
 abbrev pub PrefixAnswers : Type 0
-PrefixAnswers = (instrument : ℕ) → (prefixAnswer instrument .n ≡ 0) × Kept (prefixAnswer instrument)
+PrefixAnswers = (instrument : ℕ) → (prefixAnswer instrument .n ≡ 0) × Unpacks (prefixAnswer instrument)
 
 -- ---- the calls on a block and its sheet
 

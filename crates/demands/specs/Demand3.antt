@@ -109,7 +109,7 @@ stackAfter y rs es [] = es
 stackAfter y rs es (c ∷ cs) = stackAfter y rs (modelled y rs es c .stack) cs
 
 -- "the stated old value stands, in the block so amended, at a value place", and there is room
-pub record Accepts (y : Layout) (rs : List (List ℕ)) (es : List Entry) (e : Entry) : Type 0 where
+pub record MayAmend (y : Layout) (rs : List (List ℕ)) (es : List Entry) (e : Entry) : Type 0 where
   pub room : length es < y .limit
   pub record-is : (1 ≤ recordNumber e) × (recordNumber e ≤ length rs)
   pub value : isValue (recordIn rs (recordNumber e)) (wordNumber e) ≡ true
@@ -117,19 +117,19 @@ pub record Accepts (y : Layout) (rs : List (List ℕ)) (es : List Entry) (e : En
 
 -- ---- the demand, from an accepted block of so many records and an empty sheet
 
--- the rule of acceptance: amend succeeds exactly when `Accepts` holds, and its entry then stands last; undo exactly when an entry stands, and it takes the last
+-- the rule of acceptance: amend succeeds exactly when `MayAmend` holds, and its entry then stands last; undo exactly when an entry stands, and it takes the last
 abbrev pub ModelRule : Type 0
 ModelRule =
     (y : Layout) (b : List ℕ) (k : ℕ) (cs : List Call) → Below 256 b → judged b ≡ passed k → All (Takes y) cs →
     let rs = recordsOf b in let es = stackAfter y rs [] cs in
-    ((e : Entry) → Accepts y rs es e → modelled y rs es (amends e) ≡ record { answer = answer 0 (length es + 1) 0 0; stack = es ++ e ∷ []; out = [] })
-    × ((e : Entry) → modelled y rs es (amends e) .answer .n ≡ 0 → Accepts y rs es e)
+    ((e : Entry) → MayAmend y rs es e → modelled y rs es (amends e) ≡ record { answer = answer 0 (length es + 1) 0 0; stack = es ++ e ∷ []; out = [] })
+    × ((e : Entry) → modelled y rs es (amends e) .answer .n ≡ 0 → MayAmend y rs es e)
     × ((before : List Entry) (e : Entry) → es ≡ before ++ e ∷ [] → modelled y rs es undoes ≡ record { answer = answer 0 (length before) 0 0; stack = before; out = [] })
     × (es ≡ [] → modelled y rs es undoes ≡ record { answer = answer 45 0 0 0; stack = []; out = [] })
 
 -- what the calls leave where the model leaves this
-abbrev pub shown : Layout → List (List ℕ) → Modelled → Done
-shown y rs m = record { answer = m .answer; block = blockOf (putIn rs (m .stack)); sheet = sheetOf y (m .stack); out = m .out }
+abbrev pub asBuffers : Layout → List (List ℕ) → Modelled → Done
+asBuffers y rs m = record { answer = m .answer; block = blockOf (putIn rs (m .stack)); sheet = sheetOf y (m .stack); out = m .out }
 
 -- "the block is the first block with the standing amendments put in, oldest first, its checksum fresh"; at the end of all calls,
 -- and after each one, where every answer, sheet and output is the model's too and the block is accepted with as many records
@@ -138,7 +138,7 @@ StandingPutIn =
     (y : Layout) (b : List ℕ) (k : ℕ) (cs : List Call) → Below 256 b → judged b ≡ passed k → All (Takes y) cs →
     let rs = recordsOf b in let es = stackAfter y rs [] cs in
     (leftBy y (fresh y b) cs ≡ record { block = blockOf (putIn rs es); sheet = sheetOf y es })
-    × (doneAll y b (sheetOf y []) cs ≡ map (shown y rs) (modelledAll y rs [] cs))
+    × (doneAll y b (sheetOf y []) cs ≡ map (asBuffers y rs) (modelledAll y rs [] cs))
     × All (λ d. judged (d .block) ≡ passed k) (doneAll y b (sheetOf y []) cs)
 
 -- an entry that names another place

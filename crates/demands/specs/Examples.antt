@@ -101,10 +101,10 @@ pub data Row : Type 0 where
   ofField : String → Verdict ℕ → Row
 
 -- the row with what the definitions find
-abbrev pub computed : Row → Row
-computed (ofBlock words found) = ofBlock words (foundOf (bytesOf words))
-computed (ofCalls calls left) = ofCalls calls (leftOf calls)
-computed (ofField field read) = ofField field (fieldFound field)
+abbrev pub worked : Row → Row
+worked (ofBlock words found) = ofBlock words (foundOf (bytesOf words))
+worked (ofCalls calls left) = ofCalls calls (leftOf calls)
+worked (ofField field read) = ofField field (fieldFound field)
 
 -- a row and the number of its example; -32516 is the word 33020, and one bit off is 33021; -32768 is the word 32768
 unfoldable pub paperRows : List (ℕ × Row)
@@ -128,7 +128,7 @@ paperRows =
 
 -- each row is what is found
 abbrev pub PaperRows : Type 0
-PaperRows = map (λ r. (r .0, computed (r .1))) paperRows ≡ paperRows
+PaperRows = map (λ r. (r .0, worked (r .1))) paperRows ≡ paperRows
 
 -- ---- other things that the paper says of one input
 

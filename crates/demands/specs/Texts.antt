@@ -7,7 +7,7 @@ use lib.ListN.{length}
 use Rattle.units.specs.Answers.{passed}
 use Rattle.words.specs.Words.{joined, All}
 use Rattle.record.specs.Rules.{RecordOk}
-use Rattle.read_cut.specs.Cutting.{linesIn}
+use Rattle.read_cut.specs.Lines.{linesIn}
 use Rattle.read_text.specs.Block.{readText}
 use Rattle.read_text.specs.Spelled.{Readable, Spelled}
 

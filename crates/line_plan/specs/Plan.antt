@@ -34,5 +34,5 @@ abbrev pub kindShown : ℕ → ℕ
 kindShown kind = if eqb kind 2001 then 2101 else if eqb kind 3002 then 3101 else 1101
 
 -- the words as the lines show them: "Field 1 is the record's line count", and field 2 its kind
-abbrev pub shown : List ℕ → List ℕ
-shown r = lineCount r ∷ (kindShown (word r 2) ∷ drop 2 r)
+abbrev pub shownWords : List ℕ → List ℕ
+shownWords r = lineCount r ∷ (kindShown (word r 2) ∷ drop 2 r)

@@ -17,8 +17,9 @@ use Rattle.block.specs.Records.{recordsOf}
 use Rattle.write_lines.specs.Text.{textOf}
 use Rattle.write_lines.proofs.Sizes.{text-bound}
 use Rattle.read_text.specs.Block.{readText, toBlock}
-use Rattle.read_text.proofs.Told.{Known}
-use Rattle.read_text.proofs.Known.{Room, text-known, words-room}
+use Rattle.units.proofs.Told.{Known}
+use Rattle.read_text.specs.Cases.{TextRow}
+use Rattle.read_text.proofs.Known.{WordsFit, text-known, words-room}
 use Rattle.report.specs.Refusal.{refusalLine, orRefusal}
 use Rattle.report.proofs.Lines.{printed-most}
 use Rattle.printed.specs.Printed.{linesPrinted, blockPrinted}
@@ -53,14 +54,14 @@ module _ (t out : List ℕ) (h : 16000 ≤ length out) (r : Answer) (after : Lis
   From v = leaves r after ≡ written out (onward v (λ ws. passed (blockOf ws)))
 
   -- a block has room, and is put in
-  put-in : (ws : List ℕ) → Room 0 ws → From (passed ws) → leaves r after ≡ leaves (answer 0 (0 + length (blockOf ws)) 0 0) (sets out 0 (blockOf ws))
+  put-in : (ws : List ℕ) → WordsFit 0 ws → From (passed ws) → leaves r after ≡ leaves (answer 0 (0 + length (blockOf ws)) 0 0) (sets out 0 (blockOf ws))
   put-in ws k e = e ∙ sym (all-written out (blockOf ws) (omega (arith, length-framed ws, k .most)) (record { ends = refl; bytes = refl }))
 
   pub block-accepted : leaves r after ≡ toBlock t out → r .n ≡ 0 → Put out 0 (blockPrinted t) after (r .a)
   unfolding toBlock written blockPrinted
   block-accepted e none = by (readText t) (text-known t) e
     where
-      by : (v : Verdict (List ℕ)) → Known (Room 0) v → From v → Put out 0 (orRefusal blockOf v) after (r .a)
+      by : (v : Verdict (List ℕ)) → Known TextRow (WordsFit 0) v → From v → Put out 0 (orRefusal blockOf v) after (r .a)
       by (passed ws) k e = let w = put-in ws k e in record { ends = ap (λ x. x .answer .a) w; bytes = ap (λ x. x .out) w }
       by (refused s) k e = absurd (omega (arith, ap (λ x. x .answer .n) e, k .listed))
 
@@ -69,6 +70,6 @@ module _ (t out : List ℕ) (h : 16000 ≤ length out) (r : Answer) (after : Lis
   unfolding toBlock written blockPrinted
   block-refused {last} {next} e some p = by (readText t) (text-known t) e
     where
-      by : (v : Verdict (List ℕ)) → Known (Room 0) v → From v → Put out 0 (orRefusal blockOf v) last next
+      by : (v : Verdict (List ℕ)) → Known TextRow (WordsFit 0) v → From v → Put out 0 (orRefusal blockOf v) last next
       by (passed ws) k e = absurd (some (ap (λ x. x .answer .n) (put-in ws k e)))
       by (refused s) k e = rw (sym (ap (λ x. x .out) e), sym (ap (λ x. x .answer) e)) p

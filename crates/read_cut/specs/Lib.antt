@@ -1,1 +1,1 @@
-pub mod Cutting
+pub mod Lines

@@ -4,7 +4,7 @@ ghost use mathlib.Core.Path.{_≡_};
 ghost use Prim.Native.Nat.{_+_, _≤_, _<_};
 ghost use lib.ListN.{length, drop};
 ghost use Rattle.words.specs.Scans.{plainIn};
-ghost use Rattle.read_cut.specs.Cutting.{endLength, CutAt};
+ghost use Rattle.read_cut.specs.Lines.{endLength, CutAt};
 
 // Where a line ends, where the next one begins, and how many of its bytes are plain, from 32 to 126, before the first that is not.
 pub struct Cut {

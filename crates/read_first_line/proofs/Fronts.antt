@@ -11,7 +11,7 @@ use Rattle.words.specs.Words.{word}
 use Rattle.record.specs.Judging.{underLeast}
 use Rattle.record.proofs.Passed.{at-least}
 use Rattle.read_columns.specs.Columns.{columnOf, numbers, blankAfter}
-use Rattle.read_first_line.specs.Heading.{countsIn, countFields, prologueFields}
+use Rattle.read_first_line.specs.FirstLine.{countsIn, countFields, prologueFields}
 
 -- LPROL is at least 16
 in-range : (num : ℕ) (r x : List ℕ) → countsIn num r ≡ passed x → 16 ≤ getD x 12 0

@@ -16,23 +16,23 @@ use Rattle.record.specs.Judging.{underLeast, wordsNeeded}
 use Rattle.record.specs.Lines.{linesNeeded}
 use Rattle.line_plan.specs.Plan.{plan}
 use Rattle.read_columns.specs.Columns.{columnOf, numbers, blankAfter}
-use Rattle.read_first_line.specs.Heading.{card, fields, gives, cardsLine, countsIn, planLine, prologueFields, catalogueLine, headerLine, dataLine, kindLine}
+use Rattle.read_first_line.specs.FirstLine.{card, fields, gives, cardsLine, countsIn, planLine, prologueFields, catalogueLine, headerLine, dataLine, kindLine}
 use Rattle.read_first_line.specs.State.{put}
 
 -- words that are put one after the other
-pub put-append : (so : ℕ) (block ws vs : List ℕ) → put so block (ws ++ vs) ≡ put (so + length ws) (put so block ws) vs
-put-append so block ws vs =
-    let e : (so + 1) * 2 + length (bytesOf ws) ≡ (so + length ws + 1) * 2 = omega (arith, length-bytesOf ws) in
-    ap (sets block ((so + 1) * 2)) (bytes-append ws vs) ∙ sets-append block ((so + 1) * 2) (bytesOf ws) (bytesOf vs)
-    ∙ ap (λ at. sets (put so block ws) at (bytesOf vs)) e
+pub put-append : (held : ℕ) (block ws vs : List ℕ) → put held block (ws ++ vs) ≡ put (held + length ws) (put held block ws) vs
+put-append held block ws vs =
+    let e : (held + 1) * 2 + length (bytesOf ws) ≡ (held + length ws + 1) * 2 = omega (arith, length-bytesOf ws) in
+    ap (sets block ((held + 1) * 2)) (bytes-append ws vs) ∙ sets-append block ((held + 1) * 2) (bytesOf ws) (bytesOf vs)
+    ∙ ap (λ at. sets (put held block ws) at (bytesOf vs)) e
 
 -- three pieces of a head
-pub put-three : (so : ℕ) (block : List ℕ) (x y : ℕ) (ws : List ℕ) →
-    sets (sets (sets block ((so + 1) * 2) (bytesOf (x ∷ []))) ((so + 1 + 1) * 2) (bytesOf (y ∷ []))) ((so + 1 + 1 + 1) * 2) (bytesOf ws) ≡ put so block (x ∷ (y ∷ ws))
+pub put-three : (held : ℕ) (block : List ℕ) (x y : ℕ) (ws : List ℕ) →
+    sets (sets (sets block ((held + 1) * 2) (bytesOf (x ∷ []))) ((held + 1 + 1) * 2) (bytesOf (y ∷ []))) ((held + 1 + 1 + 1) * 2) (bytesOf ws) ≡ put held block (x ∷ (y ∷ ws))
 unfolding bytesOf
-put-three so block x y ws =
-    let e : (so + 1 + 1) * 2 ≡ suc (suc ((so + 1) * 2)) = omega arith in
-    let f : (so + 1 + 1 + 1) * 2 ≡ suc (suc (suc (suc ((so + 1) * 2)))) = omega arith in
+put-three held block x y ws =
+    let e : (held + 1 + 1) * 2 ≡ suc (suc ((held + 1) * 2)) = omega arith in
+    let f : (held + 1 + 1 + 1) * 2 ≡ suc (suc (suc (suc ((held + 1) * 2)))) = omega arith in
     rw (f, e)
 
 -- zeros are zero bytes
@@ -51,21 +51,21 @@ module _ (row : List ℕ) (used : ℕ) (h : used ≤ length row) where
   pub head-length : (total kind : ℕ) → 2 ≤ used → length (total ∷ (kind ∷ slice 2 used row)) ≡ used
   head-length total kind low = omega (arith, length-slice 2 used row h)
 
-  pub cards-is : (num so kind : ℕ) → 0 < used → let n = getD row 0 0 in
-      cardsLine num so kind (take used row) ≡
+  pub cards-is : (num held kind : ℕ) → 0 < used → let n = getD row 0 0 in
+      cardsLine num held kind (take used row) ≡
       (if ltb n 1 || ltb 199 n then refused (answer 24 num 1 0)
-      else if ltb 7998 (so + 40 * n) then refused (answer 28 num 1 0)
+      else if ltb 7998 (held + 40 * n) then refused (answer 28 num 1 0)
       else gives (40 * n ∷ (kind ∷ slice 2 used row) ++ replicate (40 - used) 0) (replicate (n - 1) card))
   unfolding cardsLine
-  cards-is num so kind low = rw (getD-take used row 0 0 low, length-take-le used row h)
+  cards-is num held kind low = rw (getD-take used row 0 0 low, length-take-le used row h)
 
-  pub plan-is : (num so : ℕ) → 16 ≤ used → let lprol = getD row 12 0 in let jpar = getD row 13 0 in let mpar = getD row 14 0 in let nrow = getD row 15 0 in
-      planLine num so (take used row) ≡
-      (if ltb 7998 (so + wordsNeeded lprol jpar mpar nrow) then refused (answer 28 num 1 0)
+  pub plan-is : (num held : ℕ) → 16 ≤ used → let lprol = getD row 12 0 in let jpar = getD row 13 0 in let mpar = getD row 14 0 in let nrow = getD row 15 0 in
+      planLine num held (take used row) ≡
+      (if ltb 7998 (held + wordsNeeded lprol jpar mpar nrow) then refused (answer 28 num 1 0)
       else if not (eqb (getD row 0 0) (linesNeeded lprol jpar mpar nrow)) then refused (answer 24 num 1 0)
       else gives (wordsNeeded lprol jpar mpar nrow ∷ (1002 ∷ slice 2 used row)) (map fields (drop 1 (plan lprol jpar mpar nrow))))
   unfolding planLine
-  plan-is num so low =
+  plan-is num held low =
       rw (getD-take used row 0 0 (omega arith), getD-take used row 12 0 (omega arith), getD-take used row 13 0 (omega arith), getD-take used row 14 0 (omega arith), getD-take used row 15 0 (omega arith))
 
 pub counts-is : (num : ℕ) (row : List ℕ) →
@@ -84,11 +84,11 @@ pub prologue-is : (num : ℕ) (l row : List ℕ) (used : ℕ) → used ≡ min (
 unfolding prologueFields
 prologue-is num l row used e = rw (e, getD-take 16 row 12 0 (omega arith))
 
-pub kind-is : (num so : ℕ) (l row : List ℕ) →
-    kindLine num so l (take 12 row) ≡
-    (if eqb (getD row 1 0) 2101 then catalogueLine num so l (take 12 row)
-    else if eqb (getD row 1 0) 3101 then headerLine num so l (take 12 row)
-    else if eqb (getD row 1 0) 1101 then dataLine num so l (take 12 row)
+pub kind-is : (num held : ℕ) (l row : List ℕ) →
+    kindLine num held l (take 12 row) ≡
+    (if eqb (getD row 1 0) 2101 then catalogueLine num held l (take 12 row)
+    else if eqb (getD row 1 0) 3101 then headerLine num held l (take 12 row)
+    else if eqb (getD row 1 0) 1101 then dataLine num held l (take 12 row)
     else refused (answer 23 num 7 0))
 unfolding kindLine
-kind-is num so l row = rw (getD-take 12 row 1 0 (omega arith))
+kind-is num held l row = rw (getD-take 12 row 1 0 (omega arith))

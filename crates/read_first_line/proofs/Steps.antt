@@ -9,17 +9,17 @@ use Rattle.read_columns.specs.declared.Flaw.{Flaw}
 use Rattle.read_columns.specs.declared.Checked.{Checked}
 use Rattle.read_columns.specs.declared.Checked.the-variants.{Good, Flawed}
 use Rattle.read_columns.specs.Cases.{flawOf, checkedOf}
-use Rattle.read_first_line.specs.Heading.{Shape, Read}
+use Rattle.read_first_line.specs.FirstLine.{Shape, Read}
 use Rattle.read_first_line.specs.State.{Stand, Stepped}
 use Rattle.read_first_line.specs.declared.Step.{Step}
 use Rattle.read_first_line.specs.declared.Step.the-variants.{Refused}
 
 -- the first refusal stands, and ends the line
-pub stops : {so : ℕ} {b b′ : List ℕ} (v : Verdict Read) (f : Flaw) → refused (flawOf f) ≡ v → Stepped so b v b′ (Refused f)
+pub stops : {held : ℕ} {b b′ : List ℕ} (v : Verdict Read) (f : Flaw) → refused (flawOf f) ≡ v → Stepped held b v b′ (Refused f)
 stops v f e = record { is = rw (sym e); near = tt }
 
 -- a step for what is the same verdict
-pub same-step : {so : ℕ} {b b′ : List ℕ} {r : Step} (v w : Verdict Read) → v ≡ w → Stepped so b v b′ r → Stepped so b w b′ r
+pub same-step : {held : ℕ} {b b′ : List ℕ} {r : Step} (v w : Verdict Read) → v ≡ w → Stepped held b v b′ r → Stepped held b w b′ r
 same-step v w e s = rw (sym e) s
 
 -- what a check says, by what it returned
@@ -27,11 +27,11 @@ pub told : {A : Type 0} (x : A) {r r′ : Checked} {v : Verdict A} → r ≡ r�
 told x e said = ap (checkedOf x) (sym e) ∙ said
 
 -- a check comes first: where it refuses, the line ends, and else it goes on
-module _ {A : Type 0} {so : ℕ} {b b′ : List ℕ} (v : Verdict A) (next : A → Verdict Read) (x : A) {r : Checked} where
-  pub flaw-ends : {f : Flaw} → r ≡ Flawed f → checkedOf x r ≡ v → Stepped so b (onward v next) b′ (Refused f)
+module _ {A : Type 0} {held : ℕ} {b b′ : List ℕ} (v : Verdict A) (next : A → Verdict Read) (x : A) {r : Checked} where
+  pub flaw-ends : {f : Flaw} → r ≡ Flawed f → checkedOf x r ≡ v → Stepped held b (onward v next) b′ (Refused f)
   flaw-ends e said = record { is = rw (sym (told x e said)); near = tt }
 
-  pub good-goes : {s : Step} → r ≡ Good → checkedOf x r ≡ v → Stepped so b (next x) b′ s → Stepped so b (onward v next) b′ s
+  pub good-goes : {s : Step} → r ≡ Good → checkedOf x r ≡ v → Stepped held b (next x) b′ s → Stepped held b (onward v next) b′ s
   good-goes e said s = rw (sym (told x e said)) s
 
 -- a check that only passes or refuses
@@ -57,6 +57,6 @@ module _ {B : Type 0} (head : List ℕ) (next : List ℕ → Verdict B) where
     good-read e said = read-go v row (told row e said)
 
 -- where a line is accepted: what is to come, the words so far and the block
-pub passed-stand : {rest rest′ : List Shape} {so so′ : ℕ} {b b′ : List ℕ} → rest ≡ rest′ → so ≡ so′ → b ≡ b′ →
-    _≡_ {A = Verdict Stand} (passed (record { rest = rest; so = so; block = b })) (passed (record { rest = rest′; so = so′; block = b′ }))
+pub passed-stand : {rest rest′ : List Shape} {held held′ : ℕ} {b b′ : List ℕ} → rest ≡ rest′ → held ≡ held′ → b ≡ b′ →
+    _≡_ {A = Verdict Stand} (passed (record { rest = rest; words = held; block = b })) (passed (record { rest = rest′; words = held′; block = b′ }))
 passed-stand e f g = rw (e, f, g)

@@ -11,7 +11,7 @@ ghost use lib.Seq.{slice};
 ghost use Rattle.units.specs.Answers.{onward};
 ghost use Rattle.line_plan.specs.Plan.{plan};
 ghost use Rattle.read_columns.specs.Cases.{checkedOf};
-ghost use Rattle.read_first_line.specs.Heading.{card, fields, countsIn, cardsLine, planLine, headerFields, countFields, prologueFields, catalogueLine, headerLine, dataLine, kindLine, firstLine};
+ghost use Rattle.read_first_line.specs.FirstLine.{card, fields, countsIn, cardsLine, planLine, headerFields, countFields, prologueFields, catalogueLine, headerLine, dataLine, kindLine, firstLine};
 ghost use Rattle.read_first_line.specs.State.{toCome, Stepped, put};
 
 // What is to come of a record: cards; or fields of the present part, then so many 1-D parts and so many 2-D rows.
@@ -45,22 +45,29 @@ pub fn cards_only(cards: Lines) -> Plan
 }
 
 // Puts a record's first words: LTOT, its kind, and the fields of its first line from field 3 on.
-fn put_head(total: Words, kind: u16, used: Words, row: &[u16], block: &mut [u8], so: Words)
-    requires { ⌜ (total .0 < 65536) × (used .0 ≤ length (now row)) × (used .0 ≤ 20) × (so .0 < 2 ^ 23) ⌝ }
-    ensures { λ _. ⌜ now (block .exit) ≡ put (so .0) (now (block .entry)) (total .0 ∷ (kind ∷ slice 2 (used .0) (now (row .entry)))) ⌝ }
+fn put_head(total: Words, kind: u16, used: Words, row: &[u16], block: &mut [u8], held: Words)
+    requires { ⌜ (total .0 < 65536) × (used .0 ≤ length (now row)) × (used .0 ≤ 20) × (held .0 < 2 ^ 23) ⌝ }
+    ensures { λ _. ⌜ now (block .exit) ≡ put (held .0) (now (block .entry)) (total .0 ∷ (kind ∷ slice 2 (used .0) (now (row .entry)))) ⌝ }
 {
-    let first = so.0 + 1;
+    let first = held.0 + 1;
     let second = first + 1;
     let third = second + 1;
-    read_store::keep_word(units::saying_words(total), block, Words(first));
-    read_store::keep_word(kind, block, Words(second));
-    read_store::keep_words(row, Words(2), used, block, Words(third));
+    read_store::store_word(units::saying_words(total), block, Words(first));
+    read_store::store_word(kind, block, Words(second));
+    read_store::store_words(row, Words(2), used, block, Words(third));
 }
 
 // A Catalogue or a Header: its line count, then room for its words.
-fn cards_line(num: Lines, so: Words, kind: u16, used: Words, row: &[u16], block: &mut [u8]) -> Step
-    requires { ⌜ (2 ≤ used .0) × (used .0 ≤ 20) × (length (now row) ≡ 20) × (so .0 < 2 ^ 22) ⌝ }
-    ensures { λ r. ⌜ Stepped (so .0) (now (block .entry)) (cardsLine (num .0) (so .0) kind (take (used .0) (now (row .entry)))) (now (block .exit)) r ⌝ }
+fn cards_line(
+    num: Lines,
+    held: Words,
+    kind: u16,
+    used: Words,
+    row: &[u16],
+    block: &mut [u8],
+) -> Step
+    requires { ⌜ (2 ≤ used .0) × (used .0 ≤ 20) × (length (now row) ≡ 20) × (held .0 < 2 ^ 22) ⌝ }
+    ensures { λ r. ⌜ Stepped (held .0) (now (block .entry)) (cardsLine (num .0) (held .0) kind (take (used .0) (now (row .entry)))) (now (block .exit)) r ⌝ }
 {
     let lines = units::lines_said(row[0]);
     if lines.0 < 1 {
@@ -70,28 +77,28 @@ fn cards_line(num: Lines, so: Words, kind: u16, used: Words, row: &[u16], block:
         return Step::Refused(Flaw::Count(num));
     }
     let total = units::words_of_cards(lines);
-    let sum = so.0 + total.0;
+    let sum = held.0 + total.0;
     if 7998 < sum {
         return Step::Refused(Flaw::Much(num));
     }
     let cards = lines.0 - 1;
-    let behind = so.0 + 40;
-    put_cards_head(total, kind, used, row, block, so);
+    let behind = held.0 + 40;
+    put_cards_head(total, kind, used, row, block, held);
     Step::Next(cards_only(Lines(cards)), Words(behind))
 }
 
 // Puts the 40 words of a Catalogue's or a Header's first line: what its fields do not give is zero.
-fn put_cards_head(total: Words, kind: u16, used: Words, row: &[u16], block: &mut [u8], so: Words)
-    requires { ⌜ (total .0 < 65536) × (2 ≤ used .0) × (used .0 ≤ 20) × (length (now row) ≡ 20) × (so .0 < 2 ^ 22) ⌝ }
-    ensures { λ _. ⌜ now (block .exit) ≡ put (so .0) (now (block .entry)) (total .0 ∷ (kind ∷ slice 2 (used .0) (now (row .entry))) ++ replicate (40 - used .0) 0) ⌝ }
+fn put_cards_head(total: Words, kind: u16, used: Words, row: &[u16], block: &mut [u8], held: Words)
+    requires { ⌜ (total .0 < 65536) × (2 ≤ used .0) × (used .0 ≤ 20) × (length (now row) ≡ 20) × (held .0 < 2 ^ 22) ⌝ }
+    ensures { λ _. ⌜ now (block .exit) ≡ put (held .0) (now (block .entry)) (total .0 ∷ (kind ∷ slice 2 (used .0) (now (row .entry))) ++ replicate (40 - used .0) 0) ⌝ }
 {
     let n = used.0;
     let left = 40 - n;
-    let next = so.0 + 1 + n;
-    put_head(total, kind, used, row, block, so);
+    let next = held.0 + 1 + n;
+    put_head(total, kind, used, row, block, held);
     let at = units::bytes_of_words(Words(next));
     let size = units::bytes_of_words(Words(left));
-    read_store::keep_filling(0, size, block, at);
+    read_store::store_filling(0, size, block, at);
 }
 
 // A Data record's four counts.
@@ -115,9 +122,9 @@ fn counts_in(num: Lines, row: &[u16]) -> Checked
 }
 
 // A Data record: room for its words, then its line count.
-fn plan_line(num: Lines, so: Words, used: Words, row: &[u16], block: &mut [u8]) -> Step
-    requires { ⌜ (used .0 ≡ min (getD (now row) 12 0) 20) × (16 ≤ used .0) × (length (now row) ≡ 20) × (so .0 < 2 ^ 22) ⌝ }
-    ensures { λ r. ⌜ Stepped (so .0) (now (block .entry)) (planLine (num .0) (so .0) (take (used .0) (now (row .entry)))) (now (block .exit)) r ⌝ }
+fn plan_line(num: Lines, held: Words, used: Words, row: &[u16], block: &mut [u8]) -> Step
+    requires { ⌜ (used .0 ≡ min (getD (now row) 12 0) 20) × (16 ≤ used .0) × (length (now row) ≡ 20) × (held .0 < 2 ^ 22) ⌝ }
+    ensures { λ r. ⌜ Stepped (held .0) (now (block .entry)) (planLine (num .0) (held .0) (take (used .0) (now (row .entry)))) (now (block .exit)) r ⌝ }
 {
     let lines = row[0];
     let lprol = row[12];
@@ -125,7 +132,7 @@ fn plan_line(num: Lines, so: Words, used: Words, row: &[u16], block: &mut [u8]) 
     let mpar = row[14];
     let nrow = row[15];
     let total = record::words_needed(lprol, jpar, mpar, nrow);
-    let sum = so.0 + total.0;
+    let sum = held.0 + total.0;
     if 7998 < sum {
         return Step::Refused(Flaw::Much(num));
     }
@@ -133,8 +140,8 @@ fn plan_line(num: Lines, so: Words, used: Words, row: &[u16], block: &mut [u8]) 
     if units::lines_said(lines).0 != needed.0 {
         return Step::Refused(Flaw::Count(num));
     }
-    let behind = so.0 + used.0;
-    put_head(total, record::DATA, used, row, block, so);
+    let behind = held.0 + used.0;
+    put_head(total, record::DATA, used, row, block, held);
     Step::Next(data_plan(used, lprol, jpar, mpar, nrow), Words(behind))
 }
 
@@ -156,13 +163,13 @@ fn data_plan(used: Words, lprol: u16, jpar: u16, mpar: u16, nrow: u16) -> Plan
 }
 
 // A Catalogue's further fields are blank or 0.
-fn catalogue_line(num: Lines, so: Words, line: &[u8], row: &[u16], block: &mut [u8]) -> Step
-    requires { ⌜ (length (now row) ≡ 20) × (so .0 < 2 ^ 22) ⌝ }
-    ensures { λ r. ⌜ Stepped (so .0) (now (block .entry)) (catalogueLine (num .0) (so .0) (now (line .entry)) (take 12 (now (row .entry)))) (now (block .exit)) r ⌝ }
+fn catalogue_line(num: Lines, held: Words, line: &[u8], row: &[u16], block: &mut [u8]) -> Step
+    requires { ⌜ (length (now row) ≡ 20) × (held .0 < 2 ^ 22) ⌝ }
+    ensures { λ r. ⌜ Stepped (held .0) (now (block .entry)) (catalogueLine (num .0) (held .0) (now (line .entry)) (take 12 (now (row .entry)))) (now (block .exit)) r ⌝ }
 {
     match read_columns::zero_fields(line, num, Words(12), Words(8)) {
         Checked::Flawed(f) => Step::Refused(f),
-        Checked::Good => cards_line(num, so, record::CATALOGUE, Words(12), row, block),
+        Checked::Good => cards_line(num, held, record::CATALOGUE, Words(12), row, block),
     }
 }
 
@@ -178,13 +185,13 @@ fn header_fields(num: Lines, line: &[u8], row: &mut [u16]) -> Checked
 }
 
 // A Header, once those fields are read.
-fn header_line(num: Lines, so: Words, line: &[u8], row: &mut [u16], block: &mut [u8]) -> Step
-    requires { ⌜ (length (now row) ≡ 20) × (so .0 < 2 ^ 22) ⌝ }
-    ensures { λ r. ⌜ Stepped (so .0) (now (block .entry)) (headerLine (num .0) (so .0) (now (line .entry)) (take 12 (now (row .entry)))) (now (block .exit)) r ⌝ }
+fn header_line(num: Lines, held: Words, line: &[u8], row: &mut [u16], block: &mut [u8]) -> Step
+    requires { ⌜ (length (now row) ≡ 20) × (held .0 < 2 ^ 22) ⌝ }
+    ensures { λ r. ⌜ Stepped (held .0) (now (block .entry)) (headerLine (num .0) (held .0) (now (line .entry)) (take 12 (now (row .entry)))) (now (block .exit)) r ⌝ }
 {
     match header_fields(num, line, row) {
         Checked::Flawed(f) => Step::Refused(f),
-        Checked::Good => cards_line(num, so, record::HEADER, Words(15), row, block),
+        Checked::Good => cards_line(num, held, record::HEADER, Words(15), row, block),
     }
 }
 
@@ -212,53 +219,53 @@ fn prologue_fields(num: Lines, used: Words, line: &[u8], row: &mut [u16]) -> Che
 }
 
 // A Data record whose counts are in range.
-fn prologue_line(num: Lines, so: Words, line: &[u8], row: &mut [u16], block: &mut [u8]) -> Step
-    requires { ⌜ (16 ≤ getD (now row) 12 0) × (length (now row) ≡ 20) × (so .0 < 2 ^ 22) ⌝ }
-    ensures { λ r. ⌜ Stepped (so .0) (now (block .entry)) (onward (prologueFields (num .0) (now (line .entry)) (take 16 (now (row .entry)))) (λ first. planLine (num .0) (so .0) first)) (now (block .exit)) r ⌝ }
+fn prologue_line(num: Lines, held: Words, line: &[u8], row: &mut [u16], block: &mut [u8]) -> Step
+    requires { ⌜ (16 ≤ getD (now row) 12 0) × (length (now row) ≡ 20) × (held .0 < 2 ^ 22) ⌝ }
+    ensures { λ r. ⌜ Stepped (held .0) (now (block .entry)) (onward (prologueFields (num .0) (now (line .entry)) (take 16 (now (row .entry)))) (λ first. planLine (num .0) (held .0) first)) (now (block .exit)) r ⌝ }
 {
     let used = line_plan::on_line(units::words_said(row[12]));
     match prologue_fields(num, used, line, row) {
         Checked::Flawed(f) => Step::Refused(f),
-        Checked::Good => plan_line(num, so, used, row, block),
+        Checked::Good => plan_line(num, held, used, row, block),
     }
 }
 
 // A Data record: its counts, then the rest of its first line.
-fn data_line(num: Lines, so: Words, line: &[u8], row: &mut [u16], block: &mut [u8]) -> Step
-    requires { ⌜ (length (now row) ≡ 20) × (so .0 < 2 ^ 22) ⌝ }
-    ensures { λ r. ⌜ Stepped (so .0) (now (block .entry)) (dataLine (num .0) (so .0) (now (line .entry)) (take 12 (now (row .entry)))) (now (block .exit)) r ⌝ }
+fn data_line(num: Lines, held: Words, line: &[u8], row: &mut [u16], block: &mut [u8]) -> Step
+    requires { ⌜ (length (now row) ≡ 20) × (held .0 < 2 ^ 22) ⌝ }
+    ensures { λ r. ⌜ Stepped (held .0) (now (block .entry)) (dataLine (num .0) (held .0) (now (line .entry)) (take 12 (now (row .entry)))) (now (block .exit)) r ⌝ }
 {
     match count_fields(num, line, row) {
         Checked::Flawed(f) => Step::Refused(f),
-        Checked::Good => prologue_line(num, so, line, row, block),
+        Checked::Good => prologue_line(num, held, line, row, block),
     }
 }
 
 // A record's first line, whose fields 1 to 12 are read: its kind decides.
-fn kind_line(num: Lines, so: Words, line: &[u8], row: &mut [u16], block: &mut [u8]) -> Step
-    requires { ⌜ (length (now row) ≡ 20) × (so .0 < 2 ^ 22) ⌝ }
-    ensures { λ r. ⌜ Stepped (so .0) (now (block .entry)) (kindLine (num .0) (so .0) (now (line .entry)) (take 12 (now (row .entry)))) (now (block .exit)) r ⌝ }
+fn kind_line(num: Lines, held: Words, line: &[u8], row: &mut [u16], block: &mut [u8]) -> Step
+    requires { ⌜ (length (now row) ≡ 20) × (held .0 < 2 ^ 22) ⌝ }
+    ensures { λ r. ⌜ Stepped (held .0) (now (block .entry)) (kindLine (num .0) (held .0) (now (line .entry)) (take 12 (now (row .entry)))) (now (block .exit)) r ⌝ }
 {
     let kind = row[1];
     if kind == 2101 {
-        return catalogue_line(num, so, line, row, block);
+        return catalogue_line(num, held, line, row, block);
     }
     if kind == 3101 {
-        return header_line(num, so, line, row, block);
+        return header_line(num, held, line, row, block);
     }
     if kind == 1101 {
-        return data_line(num, so, line, row, block);
+        return data_line(num, held, line, row, block);
     }
     Step::Refused(Flaw::Kind(num))
 }
 
 // A record's first line: fields 1 to 12, then what its kind asks for.
-pub fn first_line(num: Lines, so: Words, line: &[u8], row: &mut [u16], block: &mut [u8]) -> Step
-    requires { ⌜ (length (now row) ≡ 20) × (so .0 < 2 ^ 22) ⌝ }
-    ensures { λ r. ⌜ Stepped (so .0) (now (block .entry)) (firstLine (num .0) (so .0) (now (line .entry))) (now (block .exit)) r ⌝ }
+pub fn first_line(num: Lines, held: Words, line: &[u8], row: &mut [u16], block: &mut [u8]) -> Step
+    requires { ⌜ (length (now row) ≡ 20) × (held .0 < 2 ^ 22) ⌝ }
+    ensures { λ r. ⌜ Stepped (held .0) (now (block .entry)) (firstLine (num .0) (held .0) (now (line .entry))) (now (block .exit)) r ⌝ }
 {
     match read_columns::read_numbers(line, num, Words(0), Words(12), row) {
         Checked::Flawed(f) => Step::Refused(f),
-        Checked::Good => kind_line(num, so, line, row, block),
+        Checked::Good => kind_line(num, held, line, row, block),
     }
 }

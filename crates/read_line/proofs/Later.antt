@@ -9,16 +9,16 @@ use Rattle.words.specs.Words.{wordsOf}
 use Rattle.words.proofs.Laws.{length-wordsOf}
 use Rattle.field.specs.Reading.{columns}
 use Rattle.read_columns.specs.Columns.{blankAfter}
-use Rattle.read_first_line.specs.Heading.{Shape, card, fields, gives}
-use Rattle.read_line.specs.Reading.{rowFields, inState}
+use Rattle.read_first_line.specs.FirstLine.{Shape, card, fields, gives}
+use Rattle.read_line.specs.Lines.{rowFields, inState}
 use Rattle.read_columns.proofs.Columns.{length-columns}
 
-module _ (num so : ℕ) (l : List ℕ) (here rest : List Shape) where
-  pub card-is : here ≡ card ∷ rest → inState num so here l ≡ onward (blankAfter num l 80) (λ _. gives (wordsOf (columns 80 l 0)) rest)
+module _ (num held : ℕ) (l : List ℕ) (here rest : List Shape) where
+  pub card-is : here ≡ card ∷ rest → inState num held here l ≡ onward (blankAfter num l 80) (λ _. gives (wordsOf (columns 80 l 0)) rest)
   unfolding inState
   card-is e = rw e
 
-  pub fields-is : (n : ℕ) → here ≡ fields n ∷ rest → inState num so here l ≡ onward (rowFields num l n) (λ ws. gives ws rest)
+  pub fields-is : (n : ℕ) → here ≡ fields n ∷ rest → inState num held here l ≡ onward (rowFields num l n) (λ ws. gives ws rest)
   unfolding inState
   fields-is n e = rw e
 

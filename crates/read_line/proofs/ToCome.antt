@@ -6,7 +6,7 @@ use native.Mathlib.Omega.{arith}
 use lib.ListN.{replicate}
 use Rattle.line_plan.specs.Plan.{part, times}
 use Rattle.read_first_line.specs.declared.Plan.{Plan}
-use Rattle.read_first_line.specs.Heading.{card, fields}
+use Rattle.read_first_line.specs.FirstLine.{card, fields}
 use Rattle.read_first_line.specs.State.{linesLeft, toCome}
 use Rattle.read_first_line.proofs.ToCome.{line-less}
 

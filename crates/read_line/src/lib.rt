@@ -15,9 +15,9 @@ ghost use Rattle.words.specs.Scans.{plainIn};
 ghost use Rattle.line_plan.specs.Plan.{part, times};
 ghost use Rattle.field.specs.Reading.{columns};
 ghost use Rattle.read_columns.specs.Cases.{checkedOf};
-ghost use Rattle.read_first_line.specs.Heading.{card, fields};
+ghost use Rattle.read_first_line.specs.FirstLine.{card, fields};
 ghost use Rattle.read_first_line.specs.State.{toCome, Stepped, put};
-ghost use Rattle.read_line.specs.Reading.{rowFields, inState, lineStep};
+ghost use Rattle.read_line.specs.Lines.{rowFields, inState, readLine};
 ghost use Rattle.read_line.specs.State.{Settled};
 
 // So many of `count` parts of this width take lines: all, or none where they have no fields.
@@ -78,34 +78,34 @@ fn next_row(p: Plan) -> Plan
 }
 
 // Puts the 80 columns of a card: those that the line lacks are blank.
-fn put_card(line: &[u8], block: &mut [u8], so: Words)
-    requires { ⌜ so .0 < 2 ^ 22 ⌝ }
-    ensures { λ _. ⌜ now (block .exit) ≡ put (so .0) (now (block .entry)) (wordsOf (columns 80 (now (line .entry)) 0)) ⌝ }
+fn put_card(line: &[u8], block: &mut [u8], held: Words)
+    requires { ⌜ held .0 < 2 ^ 22 ⌝ }
+    ensures { λ _. ⌜ now (block .exit) ≡ put (held .0) (now (block .entry)) (wordsOf (columns 80 (now (line .entry)) 0)) ⌝ }
 {
-    let first = so.0 + 1;
+    let first = held.0 + 1;
     let at = units::bytes_of_words(Words(first)).0;
     if 80 <= line.len() {
-        read_store::keep_bytes(&line[..80], block, Bytes(at));
+        read_store::store_bytes(&line[..80], block, Bytes(at));
         return;
     }
     let size = line.len();
     let left = 80 - size;
     let next = at + size;
-    read_store::keep_bytes(line, block, Bytes(at));
-    read_store::keep_filling(b' ', Bytes(left), block, Bytes(next));
+    read_store::store_bytes(line, block, Bytes(at));
+    read_store::store_filling(b' ', Bytes(left), block, Bytes(next));
 }
 
 // A card.
-fn card_line(p: Plan, num: Lines, so: Words, line: &[u8], block: &mut [u8]) -> Step
-    requires { ⌜ (0 < p .cards .0) × (so .0 < 2 ^ 22) ⌝ }
-    ensures { λ r. ⌜ Stepped (so .0) (now (block .entry)) (inState (num .0) (so .0) (toCome p) (now (line .entry))) (now (block .exit)) r ⌝ }
+fn card_line(p: Plan, num: Lines, held: Words, line: &[u8], block: &mut [u8]) -> Step
+    requires { ⌜ (0 < p .cards .0) × (held .0 < 2 ^ 22) ⌝ }
+    ensures { λ r. ⌜ Stepped (held .0) (now (block .entry)) (inState (num .0) (held .0) (toCome p) (now (line .entry))) (now (block .exit)) r ⌝ }
 {
-    let behind = so.0 + 40;
+    let behind = held.0 + 40;
     let rest = one_card_less(p);
     match read_columns::blank_after(line, num, Bytes(80)) {
         Checked::Flawed(f) => Step::Refused(f),
         Checked::Good => {
-            put_card(line, block, so);
+            put_card(line, block, held);
             Step::Next(rest, Words(behind))
         }
     }
@@ -145,23 +145,23 @@ fn row_fields(num: Lines, count: Words, line: &[u8], row: &mut [u16]) -> Checked
 fn fields_line(
     p: Plan,
     num: Lines,
-    so: Words,
+    held: Words,
     line: &[u8],
     row: &mut [u16],
     block: &mut [u8],
 ) -> Step
-    requires { ⌜ (p .cards .0 ≡ 0) × (0 < p .left .0) × (length (now row) ≡ 20) × (so .0 < 2 ^ 22) ⌝ }
-    ensures { λ r. ⌜ Stepped (so .0) (now (block .entry)) (inState (num .0) (so .0) (toCome p) (now (line .entry))) (now (block .exit)) r ⌝ }
+    requires { ⌜ (p .cards .0 ≡ 0) × (0 < p .left .0) × (length (now row) ≡ 20) × (held .0 < 2 ^ 22) ⌝ }
+    ensures { λ r. ⌜ Stepped (held .0) (now (block .entry)) (inState (num .0) (held .0) (toCome p) (now (line .entry))) (now (block .exit)) r ⌝ }
 {
     let left = p.left.0;
     let count = line_plan::on_line(Words(left));
-    let first = so.0 + 1;
-    let behind = so.0 + count.0;
+    let first = held.0 + 1;
+    let behind = held.0 + count.0;
     let rest = one_line_less(p, count);
     match row_fields(num, count, line, row) {
         Checked::Flawed(f) => Step::Refused(f),
         Checked::Good => {
-            read_store::keep_words(row, Words(0), count, block, Words(first));
+            read_store::store_words(row, Words(0), count, block, Words(first));
             Step::Next(rest, Words(behind))
         }
     }
@@ -186,28 +186,35 @@ fn one_line_less(p: Plan, count: Words) -> Plan
 }
 
 // A line where a record may begin: a blank one, or a record's first.
-fn open_line(p: Plan, num: Lines, so: Words, line: &[u8], row: &mut [u16], block: &mut [u8]) -> Step
-    requires { ⌜ (toCome p ≡ []) × (length (now row) ≡ 20) × (so .0 < 2 ^ 22) ⌝ }
-    ensures { λ r. ⌜ Stepped (so .0) (now (block .entry)) (inState (num .0) (so .0) [] (now (line .entry))) (now (block .exit)) r ⌝ }
+fn open_line(
+    p: Plan,
+    num: Lines,
+    held: Words,
+    line: &[u8],
+    row: &mut [u16],
+    block: &mut [u8],
+) -> Step
+    requires { ⌜ (toCome p ≡ []) × (length (now row) ≡ 20) × (held .0 < 2 ^ 22) ⌝ }
+    ensures { λ r. ⌜ Stepped (held .0) (now (block .entry)) (inState (num .0) (held .0) [] (now (line .entry))) (now (block .exit)) r ⌝ }
 {
     if read_columns::ink_after(line, Bytes(0)).0 == 0 {
-        return Step::Next(p, so);
+        return Step::Next(p, held);
     }
-    read_first_line::first_line(num, so, line, row, block)
+    read_first_line::first_line(num, held, line, row, block)
 }
 
 // Any line, which begins with so many plain bytes.
 pub fn read_line(
     plan: Plan,
     num: Lines,
-    so: Words,
+    held: Words,
     line: &[u8],
     plain: Bytes,
     row: &mut [u16],
     block: &mut [u8],
 ) -> Step
-    requires { ⌜ (length (now row) ≡ 20) × (so .0 < 2 ^ 22) × (plain .0 ≡ plainIn (now line)) ⌝ }
-    ensures { λ r. ⌜ Stepped (so .0) (now (block .entry)) (lineStep (num .0) (so .0) (toCome plan) (now (line .entry))) (now (block .exit)) r ⌝ }
+    requires { ⌜ (length (now row) ≡ 20) × (held .0 < 2 ^ 22) × (plain .0 ≡ plainIn (now line)) ⌝ }
+    ensures { λ r. ⌜ Stepped (held .0) (now (block .entry)) (readLine (num .0) (held .0) (toCome plan) (now (line .entry))) (now (block .exit)) r ⌝ }
 {
     let column = read_columns::bad_column(line, plain);
     if 0 < column.0 {
@@ -215,10 +222,10 @@ pub fn read_line(
     }
     let p = settled(plan);
     if 0 < p.cards.0 {
-        return card_line(p, num, so, line, block);
+        return card_line(p, num, held, line, block);
     }
     if 0 < p.left.0 {
-        return fields_line(p, num, so, line, row, block);
+        return fields_line(p, num, held, line, row, block);
     }
-    open_line(p, num, so, line, row, block)
+    open_line(p, num, held, line, row, block)
 }

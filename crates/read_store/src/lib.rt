@@ -10,7 +10,7 @@ ghost use Rattle.units.specs.Units.{bytesOfWords};
 ghost use Rattle.words.specs.Words.{bytesOf};
 
 // Keeps bytes from place `at` on.
-pub fn keep_bytes(bytes: &[u8], out: &mut [u8], at: Bytes)
+pub fn store_bytes(bytes: &[u8], out: &mut [u8], at: Bytes)
     ensures { λ _. ⌜ now (out .exit) ≡ sets (now (out .entry)) (at .0) (now (bytes .entry)) ⌝ }
 {
     let first = at.0;
@@ -26,7 +26,7 @@ pub fn keep_bytes(bytes: &[u8], out: &mut [u8], at: Bytes)
 }
 
 // Keeps a byte so many times.
-pub fn keep_filling(b: u8, count: Bytes, out: &mut [u8], at: Bytes)
+pub fn store_filling(b: u8, count: Bytes, out: &mut [u8], at: Bytes)
     ensures { λ _. ⌜ now (out .exit) ≡ sets (now (out .entry)) (at .0) (replicate (count .0) b) ⌝ }
 {
     let mut to = at.0;
@@ -42,7 +42,7 @@ pub fn keep_filling(b: u8, count: Bytes, out: &mut [u8], at: Bytes)
 }
 
 // Keeps a word after `at` words.
-pub fn keep_word(w: u16, out: &mut [u8], at: Words)
+pub fn store_word(w: u16, out: &mut [u8], at: Words)
     requires { ⌜ at .0 < 2 ^ 32 ⌝ }
     ensures { λ _. ⌜ now (out .exit) ≡ sets (now (out .entry)) (bytesOfWords (at .0)) (bytesOf (w ∷ [])) ⌝ }
 {
@@ -60,7 +60,7 @@ pub fn keep_word(w: u16, out: &mut [u8], at: Words)
 }
 
 // Keeps the words of a row after `from` up to `upto`, after `at` words.
-pub fn keep_words(row: &[u16], from: Words, upto: Words, out: &mut [u8], at: Words)
+pub fn store_words(row: &[u16], from: Words, upto: Words, out: &mut [u8], at: Words)
     requires { ⌜ (upto .0 ≤ length (now row)) × (upto .0 ≤ 40) × (at .0 < 2 ^ 24) ⌝ }
     ensures { λ _. ⌜ now (out .exit) ≡ sets (now (out .entry)) (bytesOfWords (at .0)) (bytesOf (slice (from .0) (upto .0) (now (row .entry)))) ⌝ }
 {
@@ -71,7 +71,7 @@ pub fn keep_words(row: &[u16], from: Words, upto: Words, out: &mut [u8], at: Wor
         return;
     }
     while k < end {
-        keep_word(row[k], out, Words(to));
+        store_word(row[k], out, Words(to));
         k += 1;
         to += 1;
     }

@@ -22,7 +22,9 @@ use Rattle.field.specs.Reading.{finishOf, scanOf, readField, columns}
 use Rattle.units.specs.Units.{Line}
 use Rattle.read_columns.specs.Columns.{badColumn, inkFrom, inkAfter, blankAfter, columnOf, wordIn, number, numbers, blankField, zeroField, zeros}
 use Rattle.read_text.specs.Spelled.{Printed, Readable, Blanks, Spells, SpellsAll, SpellsZero}
-use Rattle.read_text.proofs.Told.{told, Known, then-known, known-as}
+use Rattle.units.proofs.Told.{Known, then-known, known-as}
+use Rattle.read_text.proofs.Told.{told}
+use Rattle.read_text.specs.Cases.{TextRow}
 use Rattle.units.proofs.Choosing.{by-test}
 
 -- ---- row 20
@@ -138,28 +140,28 @@ ink-most k (b ∷ l) = by-test (λ c. c ≤ k + length (b ∷ l)) (eqb b 32) (in
 
 -- line number num, of which no field past the 8,000th is asked for
 module _ (num : ℕ) (hn : num < 2 ^ 24) (l : Line) where
-  number-known : (k : ℕ) → k < 8000 → Known (Spells l k) (number num l k)
+  number-known : (k : ℕ) → k < 8000 → Known TextRow (Spells l k) (number num l k)
   unfolding number
   number-known k h = by (readField (columns 6 l (6 * k))) refl
     where
-      by : (n : Number) → readField (columns 6 l (6 * k)) ≡ n → Known (Spells l k) (wordIn num k n)
+      by : (n : Number) → readField (columns 6 l (6 * k)) ≡ n → Known TextRow (Spells l k) (wordIn num k n)
       by (Word w) e = e
       by Bad e = told 22 num (columnOf k) (omega arith) hn (omega arith)
 
-  pub numbers-known : (k m : ℕ) → k + m ≤ 8000 → Known (WordsRead l k m) (numbers num l k m)
+  pub numbers-known : (k m : ℕ) → k + m ≤ 8000 → Known TextRow (WordsRead l k m) (numbers num l k m)
   unfolding numbers
   numbers-known k zero h = record { count = refl; spells = tt }
   numbers-known k (suc m) h =
-      then-known (Spells l k) (WordsRead l k (suc m)) (number num l k) _ (number-known k (omega arith))
-      (λ w hw. then-known (WordsRead l (suc k) m) (WordsRead l k (suc m)) (numbers num l (suc k) m) _ (numbers-known (suc k) m (omega arith))
+      then-known TextRow (Spells l k) (WordsRead l k (suc m)) (number num l k) _ (number-known k (omega arith))
+      (λ w hw. then-known TextRow (WordsRead l (suc k) m) (WordsRead l k (suc m)) (numbers num l (suc k) m) _ (numbers-known (suc k) m (omega arith))
       (λ ws r. record { count = ap suc (r .count); spells = (hw, r .spells) }))
 
-  zero-known : (k : ℕ) → k < 8000 → Known (λ _. SpellsZero l k) (zeroField num l k)
+  zero-known : (k : ℕ) → k < 8000 → Known TextRow (λ _. SpellsZero l k) (zeroField num l k)
   unfolding zeroField
   zero-known k h =
-      by-test (Known Z) (blankField l k) (passed tt) _ (λ t. inl (blank-field l k t))
-      (λ _. then-known (Spells l k) Z (number num l k) _ (number-known k h)
-      (λ w s. by-test (Known Z) (eqb w 0) (passed tt) (refused (answer 26 num (columnOf k) 0)) (λ t. inr (s ∙ ap (λ v. Word v) (eqb-true w 0 t))) (λ _. told 26 num (columnOf k) (omega arith) hn (omega arith))))
+      by-test (Known TextRow Z) (blankField l k) (passed tt) _ (λ t. inl (blank-field l k t))
+      (λ _. then-known TextRow (Spells l k) Z (number num l k) _ (number-known k h)
+      (λ w s. by-test (Known TextRow Z) (eqb w 0) (passed tt) (refused (answer 26 num (columnOf k) 0)) (λ t. inr (s ∙ ap (λ v. Word v) (eqb-true w 0 t))) (λ _. told 26 num (columnOf k) (omega arith) hn (omega arith))))
     where
       Z : Unit {0} → Type 0
       Z _ = SpellsZero l k
@@ -168,21 +170,21 @@ module _ (num : ℕ) (hn : num < 2 ^ 24) (l : Line) where
   abbrev pub ZerosRead : ℕ → ℕ → Type 0
   ZerosRead k m = (j : ℕ) → k ≤ j → j < k + m → SpellsZero l j
 
-  pub zeros-known : (k m : ℕ) → k + m ≤ 8000 → Known (λ _. ZerosRead k m) (zeros num l k m)
+  pub zeros-known : (k m : ℕ) → k + m ≤ 8000 → Known TextRow (λ _. ZerosRead k m) (zeros num l k m)
   unfolding zeros
   zeros-known k zero h = λ j low high. absurd (omega arith)
   zeros-known k (suc m) h =
-      then-known (λ _. SpellsZero l k) (λ _. ZerosRead k (suc m)) (zeroField num l k) _ (zero-known k (omega arith))
-      (λ _ z. known-as (λ _. ZerosRead (suc k) m) (λ _. ZerosRead k (suc m)) (zeros num l (suc k) m) (zeros-known (suc k) m (omega arith))
+      then-known TextRow (λ _. SpellsZero l k) (λ _. ZerosRead k (suc m)) (zeroField num l k) _ (zero-known k (omega arith))
+      (λ _ z. known-as TextRow (λ _. ZerosRead (suc k) m) (λ _. ZerosRead k (suc m)) (zeros num l (suc k) m) (zeros-known (suc k) m (omega arith))
       (λ _ zs j low high. by j low high z zs (eqb j k) refl))
     where
       by : (j : ℕ) → k ≤ j → j < k + suc m → SpellsZero l k → ZerosRead (suc k) m → (t : Bool) → eqb j k ≡ t → SpellsZero l j
       by j low high z zs true t = rw (eqb-true j k t) z
       by j low high z zs false t = zs j (omega (arith, eqb-false j k t)) (omega arith)
 
-  pub blank-known : (c : ℕ) → Readable l → c ≤ 48000 → Known (λ _. Blanks (drop c l)) (blankAfter num l c)
+  pub blank-known : (c : ℕ) → Readable l → c ≤ 48000 → Known TextRow (λ _. Blanks (drop c l)) (blankAfter num l c)
   unfolding blankAfter
   blank-known c e h =
-      by-test (Known (λ _. Blanks (drop c l))) (eqb (inkAfter c l) 0) (passed tt) (refused (answer 26 num (inkAfter c l) 0))
+      by-test (Known TextRow (λ _. Blanks (drop c l))) (eqb (inkAfter c l) 0) (passed tt) (refused (answer 26 num (inkAfter c l) 0))
       (λ t. no-ink (c + 1) (drop c l) (omega arith) (eqb-true (inkAfter c l) 0 t))
       (λ _. told 26 num (inkAfter c l) (omega arith) hn (omega (arith, ink-most (c + 1) (drop c l), length-drop c l, e .short)))

@@ -6,19 +6,19 @@ use native.Mathlib.Nat.{add-zero}
 use borrow.Author.Tests.{eq-eqb, ne-eqb}
 use Rattle.units.specs.Answers.{answer, passed, refused}
 use Rattle.words.specs.Words.{bytesOf}
-use Rattle.read_first_line.specs.Heading.{Shape}
-use Rattle.read_line.specs.Reading.{atEnd}
-use Rattle.read_text.specs.Content.{kept}
+use Rattle.read_first_line.specs.FirstLine.{Shape}
+use Rattle.read_line.specs.Lines.{atEnd}
+use Rattle.read_text.specs.Content.{stored}
 
-module _ (num so : ℕ) (b : List ℕ) {here : List Shape} where
-  pub inside : (s : Shape) (rest : List Shape) → here ≡ s ∷ rest → refused (answer 25 num 1 0) ≡ kept so b (atEnd num so here)
+module _ (num held : ℕ) (b : List ℕ) {here : List Shape} where
+  pub inside : (s : Shape) (rest : List Shape) → here ≡ s ∷ rest → refused (answer 25 num 1 0) ≡ stored held b (atEnd num held here)
   unfolding atEnd
   inside s rest e = rw e
 
-  pub no-record : here ≡ [] → so ≡ 0 → refused (answer 21 0 0 0) ≡ kept so b (atEnd num so here)
+  pub no-record : here ≡ [] → held ≡ 0 → refused (answer 21 0 0 0) ≡ stored held b (atEnd num held here)
   unfolding atEnd
-  no-record e z = rw e (simp (eq-eqb so 0 z))
+  no-record e z = rw e (simp (eq-eqb held 0 z))
 
-  pub all-read : here ≡ [] → (so ≡ 0 → ⊥) → passed (record { so = so; block = b }) ≡ kept so b (atEnd num so here)
+  pub all-read : here ≡ [] → (held ≡ 0 → ⊥) → passed (record { words = held; block = b }) ≡ stored held b (atEnd num held here)
   unfolding atEnd bytesOf
-  all-read e z = rw e (simp (ne-eqb so 0 z) (ap (λ n. passed (record { so = n; block = b })) (sym (add-zero so))))
+  all-read e z = rw e (simp (ne-eqb held 0 z) (ap (λ n. passed (record { words = n; block = b })) (sym (add-zero held))))

@@ -14,12 +14,13 @@ use Rattle.words.specs.Outcomes.{written}
 use Rattle.words.proofs.Sealing.{length-framed}
 use Rattle.words.proofs.Writing.{written-told}
 use Rattle.units.specs.Units.{Line}
-use Rattle.read_cut.specs.Cutting.{onto, linesIn, endLength}
-use Rattle.read_first_line.specs.Heading.{Shape, Read}
-use Rattle.read_line.specs.Reading.{lineStep, atEnd, readLines}
-use Rattle.read_text.specs.Cases.{ToBlockRow}
+use Rattle.read_cut.specs.Lines.{onto, linesIn, endLength}
+use Rattle.read_first_line.specs.FirstLine.{Shape, Read}
+use Rattle.read_line.specs.Lines.{readLine, atEnd, readLines}
+use Rattle.read_text.specs.Cases.{ToBlockRow, TextRow}
 use Rattle.read_text.specs.Block.{readText, toBlock}
-use Rattle.read_text.proofs.Told.{told, Known, then-known}
+use Rattle.units.proofs.Told.{Known, then-known}
+use Rattle.read_text.proofs.Told.{told}
 use Rattle.units.proofs.Choosing.{by-test, both-ways}
 use Rattle.read_text.proofs.Opened.{wordsToCome, skipped, opens, Given, Taken, line-wide, line-known}
 
@@ -44,42 +45,42 @@ lines-most (b ∷ t) =
 -- ---- record words
 
 -- behind so many record words these are some, and no more than a block has room for
-pub record Room (so : ℕ) (ws : List ℕ) : Type 0 where
-  pub some : 1 ≤ so + length ws
-  pub most : so + length ws ≤ 7998
+pub record WordsFit (held : ℕ) (ws : List ℕ) : Type 0 where
+  pub some : 1 ≤ held + length ws
+  pub most : held + length ws ≤ 7998
 
 -- an accepted line leaves room for the lines to come
-pub room-on : (so : ℕ) (rest : List Shape) (l : Line) (s : Read) → so + wordsToCome rest ≤ 7998 → Given so rest l s → so + length (s .words) + wordsToCome (s .rest) ≤ 7998
+pub room-on : (held : ℕ) (rest : List Shape) (l : Line) (s : Read) → held + wordsToCome rest ≤ 7998 → Given held rest l s → held + length (s .words) + wordsToCome (s .rest) ≤ 7998
 unfolding wordsToCome
-room-on so (x ∷ rest) l s h g = rw (g .0) (omega (arith, line-wide x l (s .words) (g .1)))
-room-on so [] l s h (skipped b w r) = rw (w, r) (omega arith)
-room-on so [] l s h (opens o) = omega (arith, o .total, o .room)
+room-on held (x ∷ rest) l s h g = rw (g .0) (omega (arith, line-wide x l (s .words) (g .1)))
+room-on held [] l s h (skipped b w r) = rw (w, r) (omega arith)
+room-on held [] l s h (opens o) = omega (arith, o .total, o .room)
 
-end-known : (num so : ℕ) (rest : List Shape) → num < 2 ^ 24 → so + wordsToCome rest ≤ 7998 → Known (Room so) (atEnd num so rest)
+end-known : (num held : ℕ) (rest : List Shape) → num < 2 ^ 24 → held + wordsToCome rest ≤ 7998 → Known TextRow (WordsFit held) (atEnd num held rest)
 unfolding atEnd wordsToCome
-end-known num so (x ∷ rest) hn h = told 25 num 1 (omega arith) hn (omega arith)
-end-known num so [] hn h =
-    by-test (Known (Room so)) (eqb so 0) (refused (answer 21 0 0 0)) (passed []) (λ _. told 21 0 0 (omega arith) (omega arith) (omega arith))
-    (λ t. omega (arith, eqb-false so 0 t))
+end-known num held (x ∷ rest) hn h = told 25 num 1 (omega arith) hn (omega arith)
+end-known num held [] hn h =
+    by-test (Known TextRow (WordsFit held)) (eqb held 0) (refused (answer 21 0 0 0)) (passed []) (λ _. told 21 0 0 (omega arith) (omega arith) (omega arith))
+    (λ t. omega (arith, eqb-false held 0 t))
 
-lines-known : (num so : ℕ) (rest : List Shape) (ls : List Line) → num + length ls < 2 ^ 24 → so + wordsToCome rest ≤ 7998 → Known (Room so) (readLines num so rest ls)
+lines-known : (num held : ℕ) (rest : List Shape) (ls : List Line) → num + length ls < 2 ^ 24 → held + wordsToCome rest ≤ 7998 → Known TextRow (WordsFit held) (readLines num held rest ls)
 unfolding readLines
-lines-known num so rest [] hn h = end-known num so rest (omega arith) h
-lines-known num so rest (l ∷ ls) hn h =
-    then-known (Taken so rest l) (Room so) (lineStep num so rest l) _ (line-known num (omega arith) so l rest h)
-    (λ s g. then-known (Room (so + length (s .words))) (Room so) (readLines (suc num) (so + length (s .words)) (s .rest) ls) _
-    (lines-known (suc num) (so + length (s .words)) (s .rest) ls (omega arith) (room-on so rest l s h (g .given)))
+lines-known num held rest [] hn h = end-known num held rest (omega arith) h
+lines-known num held rest (l ∷ ls) hn h =
+    then-known TextRow (Taken held rest l) (WordsFit held) (readLine num held rest l) _ (line-known num (omega arith) held l rest h)
+    (λ s g. then-known TextRow (WordsFit (held + length (s .words))) (WordsFit held) (readLines (suc num) (held + length (s .words)) (s .rest) ls) _
+    (lines-known (suc num) (held + length (s .words)) (s .rest) ls (omega arith) (room-on held rest l s h (g .given)))
     (λ ws r. omega (arith, length-append (s .words) ws)))
 
 -- every refusal of a text is told, and an accepted one has 1 to 7,998 record words
-pub text-known : (t : List ℕ) → Known (Room 0) (readText t)
+pub text-known : (t : List ℕ) → Known TextRow (WordsFit 0) (readText t)
 unfolding readText wordsToCome
 text-known t =
-    by-test (Known (Room 0)) (ltb 65536 (length t)) (refused (answer 30 0 0 0)) _ (λ _. told 30 0 0 (omega arith) (omega arith) (omega arith))
+    by-test (Known TextRow (WordsFit 0)) (ltb 65536 (length t)) (refused (answer 30 0 0 0)) _ (λ _. told 30 0 0 (omega arith) (omega arith) (omega arith))
     (λ u. lines-known 1 0 [] (linesIn t) (omega (arith, lines-most t, ltb-false 65536 (length t) u)) (omega arith))
 
 pub words-room : (t ws : List ℕ) → readText t ≡ passed ws → (1 ≤ length ws) × (length ws ≤ 7998)
-words-room t ws e = let r : Room 0 ws = rw e at (text-known t) in omega arith
+words-room t ws e = let r : WordsFit 0 ws = rw e at (text-known t) in omega arith
 
 -- ---- the answer
 
@@ -96,7 +97,7 @@ answer-told t out = by (readText t) (text-known t)
     listed (inl e) = inl e
     listed (inr e) = inr (omega arith)
 
-    by : (v : Verdict (List ℕ)) → Known (Room 0) v → Answered (written out (onward v (λ ws. passed (bytesOf (framed ws)))) .answer)
+    by : (v : Verdict (List ℕ)) → Known TextRow (WordsFit 0) v → Answered (written out (onward v (λ ws. passed (bytesOf (framed ws)))) .answer)
     by (refused r) h = record { listed = inr (h .listed .0, h .listed .1); packs = h .packs }
     by (passed ws) h =
         let w = written-told out (bytesOf (framed ws)) (omega (arith, length-framed ws, h .most)) in

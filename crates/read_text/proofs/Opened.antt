@@ -20,10 +20,12 @@ use Rattle.units.specs.Units.{Line}
 use Rattle.line_plan.proofs.Plans.{fieldsIn, part-turn, fieldsIn-plan}
 use Rattle.read_columns.specs.Columns.{badColumn, inkFrom, blankAfter, columnOf, numbers, zeros}
 use Rattle.read_line.proofs.Later.{card-size}
-use Rattle.read_first_line.specs.Heading.{Shape, card, fields, Read, gives, cardsLine, countsIn, planLine, headerFields, countFields, prologueFields, catalogueLine, headerLine, dataLine, kindLine, firstLine}
-use Rattle.read_line.specs.Reading.{rowFields, inState, lineStep}
+use Rattle.read_first_line.specs.FirstLine.{Shape, card, fields, Read, gives, cardsLine, countsIn, planLine, headerFields, countFields, prologueFields, catalogueLine, headerLine, dataLine, kindLine, firstLine}
+use Rattle.read_line.specs.Lines.{rowFields, inState, readLine}
 use Rattle.read_text.specs.Spelled.{Readable, Blanks, SpellsAll, SpellsZero, LineSpells}
-use Rattle.read_text.proofs.Told.{Told, told, Known, then-known, known-as}
+use Rattle.units.proofs.Told.{Told, Known, then-known, known-as}
+use Rattle.read_text.proofs.Told.{told}
+use Rattle.read_text.specs.Cases.{TextRow}
 use Rattle.units.proofs.Choosing.{by-test}
 use Rattle.read_text.proofs.Columns.{bad-most, clean, no-ink, WordsRead, numbers-known, zeros-known, blank-known}
 
@@ -98,25 +100,25 @@ pub data First (l : Line) (s : Read) : Type 0 where
   data-first : DataFirst l s → First l s
 
 -- a record's first line, with so many words before it: it tells the words of the record, and there is room for them
-pub record Opens (so : ℕ) (l : Line) (s : Read) : Type 0 where
+pub record Opens (held : ℕ) (l : Line) (s : Read) : Type 0 where
   pub first : First l s
   pub total : word (s .words) 1 ≡ length (s .words) + wordsToCome (s .rest)
-  pub room : so + word (s .words) 1 ≤ 7998
+  pub room : held + word (s .words) 1 ≤ 7998
 
 -- a line between records: a blank line, or a first line
-pub data Between (so : ℕ) (l : Line) (s : Read) : Type 0 where
-  skipped : Blanks l → s .words ≡ [] → s .rest ≡ [] → Between so l s
-  opens : Opens so l s → Between so l s
+pub data Between (held : ℕ) (l : Line) (s : Read) : Type 0 where
+  skipped : Blanks l → s .words ≡ [] → s .rest ≡ [] → Between held l s
+  opens : Opens held l s → Between held l s
 
 -- what an accepted line gives, where `rest` was still to come
 abbrev pub Given : ℕ → List Shape → Line → Read → Type 0
-Given so [] l s = Between so l s
-Given so (x ∷ rest) l s = (s .rest ≡ rest) × LineSpells x l (s .words)
+Given held [] l s = Between held l s
+Given held (x ∷ rest) l s = (s .rest ≡ rest) × LineSpells x l (s .words)
 
 -- and row 20 passes it
-pub record Taken (so : ℕ) (rest : List Shape) (l : Line) (s : Read) : Type 0 where
+pub record Taken (held : ℕ) (rest : List Shape) (l : Line) (s : Read) : Type 0 where
   pub readable : Readable l
-  pub given : Given so rest l s
+  pub given : Given held rest l s
 
 -- a line after a record's first has so many words
 pub line-wide : (x : Shape) (l : Line) (ws : List ℕ) → LineSpells x l ws → length ws ≡ wide x
@@ -165,27 +167,27 @@ plan-turn lprol jpar mpar nrow h = rw (part-turn lprol h) refl
 
 module _ (num : ℕ) (hn : num < 2 ^ 24) where
   -- row 27 at this field
-  range : (k : ℕ) → k ≤ 20 → Told (answer 27 num (columnOf k) 0)
+  range : (k : ℕ) → k ≤ 20 → Told TextRow (answer 27 num (columnOf k) 0)
   range k h = told 27 num (columnOf k) (omega arith) hn (omega arith)
 
-  counts-known : (r : List ℕ) → Known (λ q. (q ≡ r) × Counts r) (countsIn num r)
+  counts-known : (r : List ℕ) → Known TextRow (λ q. (q ≡ r) × Counts r) (countsIn num r)
   unfolding countsIn
   counts-known r =
-      by-test (Known P) (underLeast 16 (word r 13)) (refused (answer 27 num (columnOf 12) 0)) _ (λ _. range 12 (omega arith))
-      (λ l. by-test (Known P) (underLeast 0 (word r 14)) (refused (answer 27 num (columnOf 13) 0)) _ (λ _. range 13 (omega arith))
-      (λ j. by-test (Known P) (underLeast 0 (word r 15)) (refused (answer 27 num (columnOf 14) 0)) _ (λ _. range 14 (omega arith))
-      (λ m. by-test (Known P) (underLeast 0 (word r 16)) (refused (answer 27 num (columnOf 15) 0)) _ (λ _. range 15 (omega arith))
+      by-test (Known TextRow P) (underLeast 16 (word r 13)) (refused (answer 27 num (columnOf 12) 0)) _ (λ _. range 12 (omega arith))
+      (λ l. by-test (Known TextRow P) (underLeast 0 (word r 14)) (refused (answer 27 num (columnOf 13) 0)) _ (λ _. range 13 (omega arith))
+      (λ j. by-test (Known TextRow P) (underLeast 0 (word r 15)) (refused (answer 27 num (columnOf 14) 0)) _ (λ _. range 14 (omega arith))
+      (λ m. by-test (Known TextRow P) (underLeast 0 (word r 16)) (refused (answer 27 num (columnOf 15) 0)) _ (λ _. range 15 (omega arith))
       (λ n. (refl, record { lprol = at-least 16 (word r 13) l; jpar = at-least 0 (word r 14) j; mpar = at-least 0 (word r 15) m; nrow = at-least 0 (word r 16) n })))))
     where
       P : List ℕ → Type 0
       P q = (q ≡ r) × Counts r
 
-  module _ (so : ℕ) (l : Line) where
+  module _ (held : ℕ) (l : Line) where
     -- the line of a Catalogue or a Header with n fields that may be free
     module _ (n kind shows : ℕ) (low : 2 ≤ n) (high : n ≤ 40) (head : List ℕ) (is : CardsHead n shows l head)
         (of : (s : Read) → CardsFirst n kind shows l s → First l s) where
-      cards-open : 1 ≤ word head 1 → so + 40 * word head 1 ≤ 7998
-          → Opens so l (record { words = 40 * word head 1 ∷ (kind ∷ drop 2 head) ++ replicate (40 - length head) 0; rest = replicate (word head 1 - 1) card })
+      cards-open : 1 ≤ word head 1 → held + 40 * word head 1 ≤ 7998
+          → Opens held l (record { words = 40 * word head 1 ∷ (kind ∷ drop 2 head) ++ replicate (40 - length head) 0; rest = replicate (word head 1 - 1) card })
       cards-open least room =
           let size = is .read .count in
           let come = cards-to-come (word head 1 - 1) in
@@ -197,20 +199,20 @@ module _ (num : ℕ) (hn : num < 2 ^ 24) where
             room = room;
           }
 
-      cards-known : Known (Opens so l) (cardsLine num so kind head)
+      cards-known : Known TextRow (Opens held l) (cardsLine num held kind head)
       unfolding cardsLine
       cards-known =
-          by-test (Known (Opens so l)) (ltb (word head 1) 1 || ltb 199 (word head 1)) (refused (answer 24 num 1 0)) _ (λ _. told 24 num 1 (omega arith) hn (omega arith))
-          (λ t. by-test (Known (Opens so l)) (ltb 7998 (so + 40 * word head 1)) (refused (answer 28 num 1 0)) _ (λ _. told 28 num 1 (omega arith) hn (omega arith))
-          (λ u. cards-open (ltb-false (word head 1) 1 (or-off (ltb (word head 1) 1) _ t .0)) (ltb-false 7998 (so + 40 * word head 1) u)))
+          by-test (Known TextRow (Opens held l)) (ltb (word head 1) 1 || ltb 199 (word head 1)) (refused (answer 24 num 1 0)) _ (λ _. told 24 num 1 (omega arith) hn (omega arith))
+          (λ t. by-test (Known TextRow (Opens held l)) (ltb 7998 (held + 40 * word head 1)) (refused (answer 28 num 1 0)) _ (λ _. told 28 num 1 (omega arith) hn (omega arith))
+          (λ u. cards-open (ltb-false (word head 1) 1 (or-off (ltb (word head 1) 1) _ t .0)) (ltb-false 7998 (held + 40 * word head 1) u)))
 
     -- the line of a Data record
     module _ (head : List ℕ) (is : DataHead l head) where
       abbrev needed : ℕ
       needed = wordsNeeded (word head 13) (word head 14) (word head 15) (word head 16)
 
-      data-open : word head 1 ≡ linesNeeded (word head 13) (word head 14) (word head 15) (word head 16) → so + needed ≤ 7998
-          → Opens so l (record { words = needed ∷ (1002 ∷ drop 2 head); rest = map fields (drop 1 (dataPlan head)) })
+      data-open : word head 1 ≡ linesNeeded (word head 13) (word head 14) (word head 15) (word head 16) → held + needed ≤ 7998
+          → Opens held l (record { words = needed ∷ (1002 ∷ drop 2 head); rest = map fields (drop 1 (dataPlan head)) })
       unfolding fieldsIn
       data-open lines room =
           let least = is .counts .lprol .least-is in
@@ -224,93 +226,93 @@ module _ (num : ℕ) (hn : num < 2 ^ 24) where
             room = room;
           }
 
-      plan-known : Known (Opens so l) (planLine num so head)
+      plan-known : Known TextRow (Opens held l) (planLine num held head)
       unfolding planLine
       plan-known =
           let lines = linesNeeded (word head 13) (word head 14) (word head 15) (word head 16) in
-          by-test (Known (Opens so l)) (ltb 7998 (so + needed)) (refused (answer 28 num 1 0)) _ (λ _. told 28 num 1 (omega arith) hn (omega arith))
-          (λ t. by-test (Known (Opens so l)) (not (eqb (word head 1) lines)) (refused (answer 24 num 1 0)) _
+          by-test (Known TextRow (Opens held l)) (ltb 7998 (held + needed)) (refused (answer 28 num 1 0)) _ (λ _. told 28 num 1 (omega arith) hn (omega arith))
+          (λ t. by-test (Known TextRow (Opens held l)) (not (eqb (word head 1) lines)) (refused (answer 24 num 1 0)) _
           (λ _. told 24 num 1 (omega arith) hn (omega arith))
-          (λ u. data-open (eqb-true (word head 1) lines (not-false _ u)) (ltb-false 7998 (so + needed) t)))
+          (λ u. data-open (eqb-true (word head 1) lines (not-false _ u)) (ltb-false 7998 (held + needed) t)))
 
     -- ---- any line
 
     module _ (head : List ℕ) (read : WordsRead l 0 12 head) where
-      catalogue-known : word head 2 ≡ 2101 → Known (Opens so l) (catalogueLine num so l head)
+      catalogue-known : word head 2 ≡ 2101 → Known TextRow (Opens held l) (catalogueLine num held l head)
       unfolding catalogueLine
       catalogue-known e =
-          then-known (λ _. (k : ℕ) → 12 ≤ k → k < 20 → SpellsZero l k) (Opens so l) (zeros num l 12 8) _ (zeros-known num hn l 12 8 (omega arith))
+          then-known TextRow (λ _. (k : ℕ) → 12 ≤ k → k < 20 → SpellsZero l k) (Opens held l) (zeros num l 12 8) _ (zeros-known num hn l 12 8 (omega arith))
           (λ _ z. cards-known 12 2001 2101 (omega arith) (omega arith) head (record { read = read; says = e; zeros = z }) (λ _ c. catalogue-first c))
 
-      header-fields-known : word head 2 ≡ 3101 → Known (CardsHead 15 3101 l) (headerFields num l head)
+      header-fields-known : word head 2 ≡ 3101 → Known TextRow (CardsHead 15 3101 l) (headerFields num l head)
       unfolding headerFields
       header-fields-known e =
-          then-known (WordsRead l 12 3) (CardsHead 15 3101 l) (numbers num l 12 3) _ (numbers-known num hn l 12 3 (omega arith))
-          (λ more m. then-known (λ _. (k : ℕ) → 15 ≤ k → k < 20 → SpellsZero l k) (CardsHead 15 3101 l) (zeros num l 15 5) _ (zeros-known num hn l 15 5 (omega arith))
+          then-known TextRow (WordsRead l 12 3) (CardsHead 15 3101 l) (numbers num l 12 3) _ (numbers-known num hn l 12 3 (omega arith))
+          (λ more m. then-known TextRow (λ _. (k : ℕ) → 15 ≤ k → k < 20 → SpellsZero l k) (CardsHead 15 3101 l) (zeros num l 15 5) _ (zeros-known num hn l 15 5 (omega arith))
           (λ _ z. record { read = both l 12 3 head more read m; says = stays head more 12 (read .count) 1 (omega arith) ∙ e; zeros = z }))
 
-      header-known : word head 2 ≡ 3101 → Known (Opens so l) (headerLine num so l head)
+      header-known : word head 2 ≡ 3101 → Known TextRow (Opens held l) (headerLine num held l head)
       unfolding headerLine
       header-known e =
-          then-known (CardsHead 15 3101 l) (Opens so l) (headerFields num l head) _ (header-fields-known e)
+          then-known TextRow (CardsHead 15 3101 l) (Opens held l) (headerFields num l head) _ (header-fields-known e)
           (λ r h. cards-known 15 3002 3101 (omega arith) (omega arith) r h (λ _ c. header-first c))
 
-      count-fields-known : word head 2 ≡ 1101 → Known (CountsHead l) (countFields num l head)
+      count-fields-known : word head 2 ≡ 1101 → Known TextRow (CountsHead l) (countFields num l head)
       unfolding countFields
       count-fields-known e =
-          then-known (WordsRead l 12 4) (CountsHead l) (numbers num l 12 4) _ (numbers-known num hn l 12 4 (omega arith))
-          (λ more m. known-as (λ q. (q ≡ head ++ more) × Counts (head ++ more)) (CountsHead l) (countsIn num (head ++ more)) (counts-known (head ++ more))
+          then-known TextRow (WordsRead l 12 4) (CountsHead l) (numbers num l 12 4) _ (numbers-known num hn l 12 4 (omega arith))
+          (λ more m. known-as TextRow (λ q. (q ≡ head ++ more) × Counts (head ++ more)) (CountsHead l) (countsIn num (head ++ more)) (counts-known (head ++ more))
           (λ q c. rw (c .0) (record { read = both l 12 4 head more read m; says = stays head more 12 (read .count) 1 (omega arith) ∙ e; counts = c .1 })))
 
-    prologue-known : Readable l → (r : List ℕ) → CountsHead l r → Known (DataHead l) (prologueFields num l r)
+    prologue-known : Readable l → (r : List ℕ) → CountsHead l r → Known TextRow (DataHead l) (prologueFields num l r)
     unfolding prologueFields
     prologue-known e r h =
         let used = min (word r 13) 20 in
-        then-known (WordsRead l 16 (used - 16)) (DataHead l) (numbers num l 16 (used - 16)) _ (numbers-known num hn l 16 (used - 16) (omega arith))
-        (λ more m. then-known (λ _. Blanks (drop (6 * used) l)) (DataHead l) (blankAfter num l (6 * used)) _ (blank-known num hn l (6 * used) e (omega arith))
+        then-known TextRow (WordsRead l 16 (used - 16)) (DataHead l) (numbers num l 16 (used - 16)) _ (numbers-known num hn l 16 (used - 16) (omega arith))
+        (λ more m. then-known TextRow (λ _. Blanks (drop (6 * used) l)) (DataHead l) (blankAfter num l (6 * used)) _ (blank-known num hn l (6 * used) e (omega arith))
         (λ _ b. head-on l r more h m b))
 
-    data-known : Readable l → (head : List ℕ) → WordsRead l 0 12 head → word head 2 ≡ 1101 → Known (Opens so l) (dataLine num so l head)
+    data-known : Readable l → (head : List ℕ) → WordsRead l 0 12 head → word head 2 ≡ 1101 → Known TextRow (Opens held l) (dataLine num held l head)
     unfolding dataLine
     data-known e head read k =
-        then-known (CountsHead l) (Opens so l) (countFields num l head) _ (count-fields-known head read k)
-        (λ r h. then-known (DataHead l) (Opens so l) (prologueFields num l r) _ (prologue-known e r h)
+        then-known TextRow (CountsHead l) (Opens held l) (countFields num l head) _ (count-fields-known head read k)
+        (λ r h. then-known TextRow (DataHead l) (Opens held l) (prologueFields num l r) _ (prologue-known e r h)
         (λ q g. plan-known q g))
 
-    kind-known : Readable l → (head : List ℕ) → WordsRead l 0 12 head → Known (Opens so l) (kindLine num so l head)
+    kind-known : Readable l → (head : List ℕ) → WordsRead l 0 12 head → Known TextRow (Opens held l) (kindLine num held l head)
     unfolding kindLine
     kind-known e head read =
-        by-test (Known (Opens so l)) (eqb (word head 2) 2101) (catalogueLine num so l head) _ (λ t. catalogue-known head read (eqb-true (word head 2) 2101 t))
-        (λ _. by-test (Known (Opens so l)) (eqb (word head 2) 3101) (headerLine num so l head) _ (λ t. header-known head read (eqb-true (word head 2) 3101 t))
-        (λ _. by-test (Known (Opens so l)) (eqb (word head 2) 1101) (dataLine num so l head) (refused (answer 23 num 7 0)) (λ t. data-known e head read (eqb-true (word head 2) 1101 t))
+        by-test (Known TextRow (Opens held l)) (eqb (word head 2) 2101) (catalogueLine num held l head) _ (λ t. catalogue-known head read (eqb-true (word head 2) 2101 t))
+        (λ _. by-test (Known TextRow (Opens held l)) (eqb (word head 2) 3101) (headerLine num held l head) _ (λ t. header-known head read (eqb-true (word head 2) 3101 t))
+        (λ _. by-test (Known TextRow (Opens held l)) (eqb (word head 2) 1101) (dataLine num held l head) (refused (answer 23 num 7 0)) (λ t. data-known e head read (eqb-true (word head 2) 1101 t))
         (λ _. told 23 num 7 (omega arith) hn (omega arith))))
 
-    first-known : Readable l → Known (Opens so l) (firstLine num so l)
+    first-known : Readable l → Known TextRow (Opens held l) (firstLine num held l)
     unfolding firstLine
     first-known e =
-        then-known (WordsRead l 0 12) (Opens so l) (numbers num l 0 12) _ (numbers-known num hn l 0 12 (omega arith)) (λ head read. kind-known e head read)
+        then-known TextRow (WordsRead l 0 12) (Opens held l) (numbers num l 0 12) _ (numbers-known num hn l 0 12 (omega arith)) (λ head read. kind-known e head read)
 
-    row-known : Readable l → (n : ℕ) → n ≤ 7998 → Known (LineSpells (fields n) l) (rowFields num l n)
+    row-known : Readable l → (n : ℕ) → n ≤ 7998 → Known TextRow (LineSpells (fields n) l) (rowFields num l n)
     unfolding rowFields
     row-known e n h =
-        then-known (WordsRead l 0 n) (LineSpells (fields n) l) (numbers num l 0 n) _ (numbers-known num hn l 0 n (omega arith))
-        (λ ws r. then-known (λ _. Blanks (drop (6 * n) l)) (LineSpells (fields n) l) (blankAfter num l (6 * n)) _ (blank-known num hn l (6 * n) e (omega arith))
+        then-known TextRow (WordsRead l 0 n) (LineSpells (fields n) l) (numbers num l 0 n) _ (numbers-known num hn l 0 n (omega arith))
+        (λ ws r. then-known TextRow (λ _. Blanks (drop (6 * n) l)) (LineSpells (fields n) l) (blankAfter num l (6 * n)) _ (blank-known num hn l (6 * n) e (omega arith))
         (λ _ b. (r .count, r .spells, b)))
 
-    state-known : (rest : List Shape) → so + wordsToCome rest ≤ 7998 → Readable l → Known (Given so rest l) (inState num so rest l)
+    state-known : (rest : List Shape) → held + wordsToCome rest ≤ 7998 → Readable l → Known TextRow (Given held rest l) (inState num held rest l)
     unfolding inState wordsToCome
     state-known (card ∷ rest) room e =
-        then-known (λ _. Blanks (drop 80 l)) (Given so (card ∷ rest) l) (blankAfter num l 80) _ (blank-known num hn l 80 e (omega arith)) (λ _ b. (refl, (refl, b)))
+        then-known TextRow (λ _. Blanks (drop 80 l)) (Given held (card ∷ rest) l) (blankAfter num l 80) _ (blank-known num hn l 80 e (omega arith)) (λ _ b. (refl, (refl, b)))
     state-known (fields n ∷ rest) room e =
-        then-known (LineSpells (fields n) l) (Given so (fields n ∷ rest) l) (rowFields num l n) _ (row-known e n (omega arith)) (λ ws r. (refl, r))
+        then-known TextRow (LineSpells (fields n) l) (Given held (fields n ∷ rest) l) (rowFields num l n) _ (row-known e n (omega arith)) (λ ws r. (refl, r))
     state-known [] room e =
-        by-test (Known (Between so l)) (eqb (inkFrom 1 l) 0) (gives [] []) (firstLine num so l) (λ t. skipped (no-ink 1 l (omega arith) (eqb-true (inkFrom 1 l) 0 t)) refl refl)
-        (λ _. known-as (Opens so l) (Between so l) (firstLine num so l) (first-known e) (λ s o. opens o))
+        by-test (Known TextRow (Between held l)) (eqb (inkFrom 1 l) 0) (gives [] []) (firstLine num held l) (λ t. skipped (no-ink 1 l (omega arith) (eqb-true (inkFrom 1 l) 0 t)) refl refl)
+        (λ _. known-as TextRow (Opens held l) (Between held l) (firstLine num held l) (first-known e) (λ s o. opens o))
 
-    pub line-known : (rest : List Shape) → so + wordsToCome rest ≤ 7998 → Known (Taken so rest l) (lineStep num so rest l)
-    unfolding lineStep
+    pub line-known : (rest : List Shape) → held + wordsToCome rest ≤ 7998 → Known TextRow (Taken held rest l) (readLine num held rest l)
+    unfolding readLine
     line-known rest room =
-        by-test (Known (Taken so rest l)) (ltb 0 (badColumn 1 l)) (refused (answer 20 num (badColumn 1 l) 0)) _
+        by-test (Known TextRow (Taken held rest l)) (ltb 0 (badColumn 1 l)) (refused (answer 20 num (badColumn 1 l) 0)) _
         (λ _. told 20 num (badColumn 1 l) (omega arith) hn (omega (arith, bad-most 1 l (omega arith))))
         (λ t. let e = clean l (omega (arith, ltb-false 0 (badColumn 1 l) t)) in
-        known-as (Given so rest l) (Taken so rest l) (inState num so rest l) (state-known rest room e) (λ s g. record { readable = e; given = g }))
+        known-as TextRow (Given held rest l) (Taken held rest l) (inState num held rest l) (state-known rest room e) (λ s g. record { readable = e; given = g }))

@@ -13,11 +13,11 @@ use Rattle.words.specs.Words.{bytesOf, framed}
 use Rattle.words.specs.Outcomes.{leaves, written}
 use Rattle.read_columns.specs.declared.Flaw.{Flaw}
 use Rattle.read_columns.specs.Cases.{flawOf}
-use Rattle.read_cut.specs.Cutting.{linesIn}
-use Rattle.read_line.specs.Reading.{readLines}
+use Rattle.read_cut.specs.Lines.{linesIn}
+use Rattle.read_line.specs.Lines.{readLines}
 use Rattle.read_text.specs.Block.{readText, wordsIn, toBlock}
 use Rattle.read_first_line.specs.State.{put}
-use Rattle.read_text.specs.Content.{Kept, kept, keptOf}
+use Rattle.read_text.specs.Content.{Stored, stored, storedOf}
 use Rattle.read_text.specs.Cases.{contentOf}
 use Rattle.read_text.specs.declared.Content.{Content}
 use Rattle.read_text.specs.declared.Content.the-variants.{Records, Flawed}
@@ -33,46 +33,46 @@ module _ (t : List ℕ) where
   line-by-line h = simp (le-ltb 65536 (length t) h)
 
 -- an accepted text, and the count of its record words
-pub record Accepts (t : List ℕ) (n : ℕ) : Type 0 where
+pub record HasWords (t : List ℕ) (n : ℕ) : Type 0 where
   pub records : List ℕ
   pub is : readText t ≡ passed records
   pub count : n ≡ length records
 
-pub accepts : (t : List ℕ) (n : Words) → contentOf (Records n) ≡ wordsIn t → Accepts t (n .0)
+pub has-words : (t : List ℕ) (n : Words) → contentOf (Records n) ≡ wordsIn t → HasWords t (n .0)
 unfolding wordsIn
-accepts t n e = by (readText t) refl e
+has-words t n e = by (readText t) refl e
   where
-    by : (v : Verdict (List ℕ)) → readText t ≡ v → contentOf (Records n) ≡ onward v (λ ws. passed (length ws)) → Accepts t (n .0)
+    by : (v : Verdict (List ℕ)) → readText t ≡ v → contentOf (Records n) ≡ onward v (λ ws. passed (length ws)) → HasWords t (n .0)
     by (passed ws) is same = record { records = ws; is = is; count = cc }
     by (refused r) is same = absurd (never-passed (sym same))
 
 -- what the loop finds is the count of words, whatever it writes
-pub counted : (t b b′ : List ℕ) (r : Content) → keptOf b′ r ≡ kept 0 b (readText t) → contentOf r ≡ wordsIn t
+pub counted : (t b b′ : List ℕ) (r : Content) → storedOf b′ r ≡ stored 0 b (readText t) → contentOf r ≡ wordsIn t
 unfolding wordsIn
 counted t b b′ r e = by r (readText t) e
   where
-    by : (c : Content) (v : Verdict (List ℕ)) → keptOf b′ c ≡ kept 0 b v → contentOf c ≡ onward v (λ ws. passed (length ws))
+    by : (c : Content) (v : Verdict (List ℕ)) → storedOf b′ c ≡ stored 0 b v → contentOf c ≡ onward v (λ ws. passed (length ws))
     by (Records n) (passed ws) same =
-        let k : _≡_ {A = Kept} (record { so = n .0; block = b′ }) (record { so = 0 + length ws; block = put 0 b ws }) = cc in
-        ap (λ m. passed m) (ap (λ (x : Kept). x .so) k ∙ zero-add (length ws))
+        let k : _≡_ {A = Stored} (record { words = n .0; block = b′ }) (record { words = 0 + length ws; block = put 0 b ws }) = cc in
+        ap (λ m. passed m) (ap (λ (x : Stored). x .words) k ∙ zero-add (length ws))
     by (Records n) (refused r) same = absurd (never-passed (sym same))
     by (Flawed f) (passed ws) same = absurd (never-passed same)
     by (Flawed f) (refused r) same = let k : flawOf f ≡ r = cc in ap (λ x. refused x) k
 
 -- what was accepted has at most 65,536 bytes
-pub not-long : (t : List ℕ) (n : ℕ) → Accepts t n → length t ≤ 65536
+pub not-long : (t : List ℕ) (n : ℕ) → HasWords t n → length t ≤ 65536
 unfolding readText
 not-long t n a = ltb-false 65536 (length t) (else-passed (ltb 65536 (length t)) (answer 30 0 0 0) _ (a .records) (a .is) .0)
 
 -- the words that are put behind the length word
-pub words-put : (t b b′ : List ℕ) (n : ℕ) (r : Content) (a : Accepts t n) → keptOf b′ r ≡ kept 0 b (readText t) → b′ ≡ put 0 b (a .records)
+pub words-put : (t b b′ : List ℕ) (n : ℕ) (r : Content) (a : HasWords t n) → storedOf b′ r ≡ stored 0 b (readText t) → b′ ≡ put 0 b (a .records)
 words-put t b b′ n (Records m) a e =
-    let k : _≡_ {A = Kept} (record { so = m .0; block = b′ }) (record { so = 0 + length (a .records); block = put 0 b (a .records) }) = let s : keptOf b′ (Records m) ≡ kept 0 b (passed (a .records)) = rw (a .is) at e in cc in
-    ap (λ (x : Kept). x .block) k
-words-put t b b′ n (Flawed f) a e = let s : keptOf b′ (Flawed f) ≡ kept 0 b (passed (a .records)) = rw (a .is) at e in absurd (never-passed s)
+    let k : _≡_ {A = Stored} (record { words = m .0; block = b′ }) (record { words = 0 + length (a .records); block = put 0 b (a .records) }) = let s : storedOf b′ (Records m) ≡ stored 0 b (passed (a .records)) = rw (a .is) at e in cc in
+    ap (λ (x : Stored). x .block) k
+words-put t b b′ n (Flawed f) a e = let s : storedOf b′ (Flawed f) ≡ stored 0 b (passed (a .records)) = rw (a .is) at e in absurd (never-passed s)
 
 -- the block that an accepted text gives
-pub block-is : (t out : List ℕ) (n : ℕ) (a : Accepts t n) → toBlock t out ≡ written out (passed (bytesOf (framed (a .records))))
+pub block-is : (t out : List ℕ) (n : ℕ) (a : HasWords t n) → toBlock t out ≡ written out (passed (bytesOf (framed (a .records))))
 unfolding toBlock
 block-is t out n a = rw (a .is)
 

@@ -7,8 +7,8 @@ use Rattle.units.specs.Choice.{if_then_else_}
 use Rattle.units.specs.Answers.{answer, Verdict, passed, refused, onward}
 use Rattle.words.specs.Words.{bytesOf, framed}
 use Rattle.words.specs.Outcomes.{Written, written}
-use Rattle.read_cut.specs.Cutting.{linesIn}
-use Rattle.read_line.specs.Reading.{readLines}
+use Rattle.read_cut.specs.Lines.{linesIn}
+use Rattle.read_line.specs.Lines.{readLines}
 
 -- "Order for text: 30, then line by line": the record words of the text
 unfoldable pub readText : List ℕ → Verdict (List ℕ)

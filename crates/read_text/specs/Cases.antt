@@ -6,8 +6,8 @@ use Rattle.units.specs.Answers.{answer, Verdict, passed, refused}
 use Rattle.read_columns.specs.Cases.{flawOf}
 use Rattle.read_text.specs.declared.Content.{Content}
 use Rattle.read_text.specs.declared.Content.the-variants.{Records, Flawed}
-use Rattle.read_text.specs.declared.Blocked.{Blocked}
-use Rattle.read_text.specs.declared.Blocked.the-variants.{Block, Refused, Short}
+use Rattle.read_text.specs.declared.Built.{Built}
+use Rattle.read_text.specs.declared.Built.the-variants.{Block, Refused, Short}
 
 -- "Order for text: 30, then line by line ... At the end 21": rows 20 to 28, and 30
 abbrev pub TextRow : ℕ → Type 0
@@ -23,7 +23,7 @@ contentOf (Records n) = passed (n .0)
 contentOf (Flawed f) = refused (flawOf f)
 
 -- the bytes written; the text's refusal; row 29 with the bytes needed
-abbrev pub blockedOf : Blocked → Answer
-blockedOf (Block size) = answer 0 (size .0) 0 0
-blockedOf (Refused f) = flawOf f
-blockedOf (Short size) = answer 29 (size .0) 0 0
+abbrev pub builtOf : Built → Answer
+builtOf (Block size) = answer 0 (size .0) 0 0
+builtOf (Refused f) = flawOf f
+builtOf (Short size) = answer 29 (size .0) 0 0

@@ -9,8 +9,8 @@ use Rattle.words.specs.Words.{word, wordsOf, All}
 use Rattle.record.specs.Lines.{lineCount}
 use Rattle.field.specs.declared.Number.the-variants.{Word}
 use Rattle.field.specs.Reading.{readField, columns}
-use Rattle.line_plan.specs.Plan.{dataPlan, shown}
-use Rattle.read_first_line.specs.Heading.{Shape, card, fields}
+use Rattle.line_plan.specs.Plan.{dataPlan, shownWords}
+use Rattle.read_first_line.specs.FirstLine.{Shape, card, fields}
 
 -- "Other bytes are 32 to 126"
 pub record Printed (b : ℕ) : Type 0 where
@@ -52,7 +52,7 @@ pub data LinesSpell : List Shape → List Line → List ℕ → Type 0 where
 
 -- "a Catalogue or Header prologue is one line of 20 fields": line count, kind and words in the first n, the others blank or 0; then the cards
 pub record CardsSpelled (n : ℕ) (r : List ℕ) (l : Line) (ls : List Line) : Type 0 where
-  pub free : SpellsAll l 0 (take n (shown r))
+  pub free : SpellsAll l 0 (take n (shownWords r))
   pub zeros : (k : ℕ) → n ≤ k → k < 20 → SpellsZero l k
   pub cards : LinesSpell (replicate (lineCount r - 1) card) ls (drop 40 r)
 
@@ -60,7 +60,7 @@ pub record CardsSpelled (n : ℕ) (r : List ℕ) (l : Line) (ls : List Line) : T
 pub data RecordSpelled (r : List ℕ) : List Line → Type 0 where
   as-catalogue : {l : Line} {ls : List Line} → word r 2 ≡ 2001 → CardsSpelled 12 r l ls → RecordSpelled r (l ∷ ls)
   as-header : {l : Line} {ls : List Line} → word r 2 ≡ 3002 → CardsSpelled 15 r l ls → RecordSpelled r (l ∷ ls)
-  as-data : {ls : List Line} → word r 2 ≡ 1002 → LinesSpell (map fields (dataPlan r)) ls (shown r) → RecordSpelled r ls
+  as-data : {ls : List Line} → word r 2 ≡ 1002 → LinesSpell (map fields (dataPlan r)) ls (shownWords r) → RecordSpelled r ls
 
 -- "Blank lines may stand before, between and after records"
 pub data Spelled : List Line → List (List ℕ) → Type 0 where

@@ -12,12 +12,12 @@ ghost use Prim.Native.Nat.{_≤_};
 ghost use lib.ListN.{length};
 ghost use Rattle.units.specs.Answers.{Packs};
 ghost use Rattle.words.specs.Outcomes.{leaves};
-ghost use Rattle.read_cut.specs.Cutting.{linesIn};
-ghost use Rattle.read_line.specs.Reading.{readLines};
+ghost use Rattle.read_cut.specs.Lines.{linesIn};
+ghost use Rattle.read_line.specs.Lines.{readLines};
 ghost use Rattle.read_first_line.specs.State.{toCome};
-ghost use Rattle.read_text.specs.Content.{kept, keptOf, Ended};
+ghost use Rattle.read_text.specs.Content.{stored, storedOf, Ended};
 ghost use Rattle.read_text.specs.Block.{wordsIn, toBlock};
-ghost use Rattle.read_text.specs.Cases.{contentOf, blockedOf};
+ghost use Rattle.read_text.specs.Cases.{contentOf, builtOf};
 
 // What is found of a text: so many record words, or why it is refused.
 pub enum Content {
@@ -26,8 +26,8 @@ pub enum Content {
 }
 
 // At the end of the text; `num` is one more than its last line.
-fn at_end(plan: Plan, num: Lines, so: Words) -> Content
-    ensures { λ r. ⌜ Ended (num .0) (so .0) (toCome plan) r ⌝ }
+fn at_end(plan: Plan, num: Lines, held: Words) -> Content
+    ensures { λ r. ⌜ Ended (num .0) (held .0) (toCome plan) r ⌝ }
 {
     let p = read_line::settled(plan);
     if 0 < p.cards.0 {
@@ -36,20 +36,20 @@ fn at_end(plan: Plan, num: Lines, so: Words) -> Content
     if 0 < p.left.0 {
         return Content::Flawed(Flaw::Ends(num));
     }
-    if so.0 == 0 {
+    if held.0 == 0 {
         return Content::Flawed(Flaw::NoRecord);
     }
-    Content::Records(so)
+    Content::Records(held)
 }
 
 // Reads the lines of a text, and puts their words into the block behind its length word, as far as it has room.
 fn read_lines(text: &[u8], block: &mut [u8]) -> Content
     requires { ⌜ length (now text) ≤ 65536 ⌝ }
-    ensures { λ r. ⌜ keptOf (now (block .exit)) r ≡ kept 0 (now (block .entry)) (readLines 1 0 [] (linesIn (now (text .entry)))) ⌝ }
+    ensures { λ r. ⌜ storedOf (now (block .exit)) r ≡ stored 0 (now (block .entry)) (readLines 1 0 [] (linesIn (now (text .entry)))) ⌝ }
 {
     let mut row = [0u16; 20];
     let mut plan = read_first_line::cards_only(Lines(0));
-    let mut so = Words(0);
+    let mut held = Words(0);
     let mut num = 1;
     let mut at = 0;
     while at < text.len() {
@@ -57,21 +57,29 @@ fn read_lines(text: &[u8], block: &mut [u8]) -> Content
         let end = cut.end.0;
         let next = cut.next.0;
         let plain = Bytes(cut.plain.0);
-        match read_line::read_line(plan, Lines(num), so, &text[at..end], plain, &mut row, block) {
+        match read_line::read_line(
+            plan,
+            Lines(num),
+            held,
+            &text[at..end],
+            plain,
+            &mut row,
+            block,
+        ) {
             Step::Refused(f) => return Content::Flawed(f),
             Step::Next(p, n) => {
                 plan = p;
-                so = n;
+                held = n;
                 num += 1;
                 at = next;
             }
         }
     }
-    at_end(plan, Lines(num), so)
+    at_end(plan, Lines(num), held)
 }
 
 // What becomes of a text: a block of so many bytes, its refusal, or a buffer that is too short for the bytes needed.
-pub enum Blocked {
+pub enum Built {
     Block(Bytes),
     Refused(Flaw),
     Short(Bytes),
@@ -89,39 +97,39 @@ pub fn judge(text: &[u8]) -> Content
 }
 
 // Writes the block of an accepted text that has so many record words, if the lent block has room for it.
-fn write_block(text: &[u8], records: Words, block: &mut [u8]) -> Blocked
+fn write_block(text: &[u8], records: Words, block: &mut [u8]) -> Built
     requires { ⌜ contentOf (Content.Records records) ≡ wordsIn (now text) ⌝ }
-    ensures { λ r. ⌜ leaves (blockedOf r) (now (block .exit)) ≡ toBlock (now (text .entry)) (now (block .entry)) ⌝ }
+    ensures { λ r. ⌜ leaves (builtOf r) (now (block .exit)) ≡ toBlock (now (text .entry)) (now (block .entry)) ⌝ }
 {
     let all = records.0 + 2;
     let needed = units::bytes_of_words(Words(all));
     let size = needed.0;
     if block.len() < size {
-        return Blocked::Short(needed);
+        return Built::Short(needed);
     }
     read_lines(text, block);
     words::seal(block, records);
-    Blocked::Block(needed)
+    Built::Block(needed)
 }
 
 // Lines to block.
-pub fn to_block(text: &[u8], block: &mut [u8]) -> Blocked
-    ensures { λ r. ⌜ leaves (blockedOf r) (now (block .exit)) ≡ toBlock (now (text .entry)) (now (block .entry)) ⌝ }
+pub fn to_block(text: &[u8], block: &mut [u8]) -> Built
+    ensures { λ r. ⌜ leaves (builtOf r) (now (block .exit)) ≡ toBlock (now (text .entry)) (now (block .entry)) ⌝ }
 {
     match judge(text) {
-        Content::Flawed(f) => Blocked::Refused(f),
+        Content::Flawed(f) => Built::Refused(f),
         Content::Records(n) => write_block(text, n, block),
     }
 }
 
 // The four numbers of an answer.
-pub fn numbers(b: Blocked) -> Answer
-    requires { ⌜ Packs (blockedOf b) ⌝ }
-    ensures { λ r. ⌜ r ≡ blockedOf b ⌝ }
+pub fn numbers(b: Built) -> Answer
+    requires { ⌜ Packs (builtOf b) ⌝ }
+    ensures { λ r. ⌜ r ≡ builtOf b ⌝ }
 {
     match b {
-        Blocked::Block(size) => units::sized(0, size),
-        Blocked::Refused(f) => read_columns::numbers(f),
-        Blocked::Short(size) => units::sized(29, size),
+        Built::Block(size) => units::sized(0, size),
+        Built::Refused(f) => read_columns::numbers(f),
+        Built::Short(size) => units::sized(29, size),
     }
 }

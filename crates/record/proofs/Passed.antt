@@ -138,24 +138,24 @@ unfolding judgeRecord
 record-passed n rest k e = kind-passed n rest k _ _ _ refl refl refl (else-passed (ltb (length rest) 16) _ _ _ e .1)
 
 -- what passed is 16 words or more, no longer than what is left, and says its length
-pub record Room (rest : List ℕ) (k : ℕ) : Type 0 where
+pub record SizeSaid (rest : List ℕ) (k : ℕ) : Type 0 where
   pub least : 16 ≤ k
   pub most : k ≤ length rest
   pub says : word rest 1 ≡ k
 
-room : {rest : List ℕ} {k : ℕ} → RecordPassed rest k → Room rest k
+room : {rest : List ℕ} {k : ℕ} → RecordPassed rest k → SizeSaid rest k
 room (a-catalogue e c) = record { least = omega (arith, c .right .least); most = c .right .room; says = c .total }
 room (a-header e c) = record { least = omega (arith, c .right .least); most = c .right .room; says = c .total }
 room (a-data e c) = record { least = c .least; most = c .room; says = c .total }
 
-pub passed-room : (n : ℕ) (rest : List ℕ) (k : ℕ) → judgeRecord n rest ≡ passed k → Room rest k
-passed-room n rest k e = room (record-passed n rest k e)
+pub passed-size : (n : ℕ) (rest : List ℕ) (k : ℕ) → judgeRecord n rest ≡ passed k → SizeSaid rest k
+passed-size n rest k e = room (record-passed n rest k e)
 
 pub passed-record : (n : ℕ) (rest : List ℕ) (k : ℕ) → RecordPassed rest k → judgeRecord n rest ≡ passed k
 unfolding judgeRecord
 passed-record n rest k r = by r (room r)
   where
-    by : RecordPassed rest k → Room rest k → judgeRecord n rest ≡ passed k
+    by : RecordPassed rest k → SizeSaid rest k → judgeRecord n rest ≡ passed k
     by (a-catalogue e c) m = simp (le-ltb (length rest) 16 (omega arith), e) (passed-cards n 13 rest k c)
     by (a-header e c) m = simp (le-ltb (length rest) 16 (omega arith), e) (passed-cards n 16 rest k c)
     by (a-data e c) m = simp (le-ltb (length rest) 16 (omega arith), e) (passed-data n rest k c)

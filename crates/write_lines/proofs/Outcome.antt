@@ -9,7 +9,7 @@ use Rattle.units.specs.Answers.{Verdict, passed, refused, Packs}
 use Rattle.words.specs.Outcomes.{written, leaves}
 use Rattle.block.specs.Judging.{judged}
 use Rattle.block.specs.Records.{recordsOf}
-use Rattle.block.proofs.Known.{Known, judged-known}
+use Rattle.block.proofs.Known.{KnownBlock, judged-known}
 use Rattle.words.specs.Words.{Below}
 use Rattle.words.proofs.Writing.{written-told}
 use Rattle.write_lines.proofs.Sizes.{text-bound}
@@ -32,7 +32,7 @@ outcome-told b out h = by (judged b) refl (judged-known b h)
     listed (inl e) = inl e
     listed (inr e) = inr (inr e)
 
-    by : (v : Verdict ℕ) → judged b ≡ v → Known v → ((toLines b out .answer .n ≡ 0) ⊎ LinesRow (toLines b out .answer .n)) × Packs (toLines b out .answer)
+    by : (v : Verdict ℕ) → judged b ≡ v → KnownBlock v → ((toLines b out .answer .n ≡ 0) ⊎ LinesRow (toLines b out .answer .n)) × Packs (toLines b out .answer)
     by (refused r) e t = rw (when-refused b out r e) (inr (inl (t .listed)), t .packs)
     by (passed k) e t =
         let w = written-told out (textOf (recordsOf b)) (omega (arith, text-bound b h (record { count = k; is = e }))) in

@@ -19,7 +19,7 @@ use Rattle.record.specs.Rules.{CardsOk, DataOk, KindOk, catalogue, header, data
 use Rattle.block.specs.Judging.{Accepted}
 use Rattle.block.specs.Records.{recordsOf}
 use Rattle.block.proofs.Exact.{only-good}
-use Rattle.line_plan.specs.Plan.{plan, dataPlan, kindShown, shown}
+use Rattle.line_plan.specs.Plan.{plan, dataPlan, kindShown, shownWords}
 use Rattle.line_plan.proofs.Plans.{fieldsIn, length-plan, fieldsIn-plan}
 use Rattle.write_parts.specs.Laid.{fieldsOf, laid, cardLines, ended}
 use Rattle.write_parts.proofs.Turns.{length-fieldsOf}
@@ -81,7 +81,7 @@ module _ (r : List ℕ) where
     unfolding sizeOf
     cards-size = simp e
 
-    pub cards-lines : linesOf r ≡ fieldsOf (take 20 (shown r)) ∷ cardLines (lineCount r - 1) (drop 40 r)
+    pub cards-lines : linesOf r ≡ fieldsOf (take 20 (shownWords r)) ∷ cardLines (lineCount r - 1) (drop 40 r)
     unfolding linesOf
     cards-lines = simp e
 
@@ -90,16 +90,16 @@ module _ (r : List ℕ) where
     cards-sized z c =
         let n = cards-count in
         let s = c .size in
-        let sh : length (shown r) ≡ length r = omega (arith, length-drop 2 r) in
+        let sh : length (shownWords r) ≡ length r = omega (arith, length-drop 2 r) in
         let l : length (linesOf r) ≡ lineCount r = ap length cards-lines ∙ omega (arith, length-cards (lineCount r - 1) (drop 40 r)) in
         let t : length (ended (linesOf r)) ≡ sizeOf r =
         ap (λ ls. length (ended ls)) cards-lines
         ∙ omega (
           arith,
           cards-size,
-          length-append (fieldsOf (take 20 (shown r))) (10 ∷ ended (cardLines (lineCount r - 1) (drop 40 r))),
-          length-fieldsOf (take 20 (shown r)),
-          length-take-le 20 (shown r) (omega arith),
+          length-append (fieldsOf (take 20 (shownWords r))) (10 ∷ ended (cardLines (lineCount r - 1) (drop 40 r))),
+          length-fieldsOf (take 20 (shownWords r)),
+          length-take-le 20 (shownWords r) (omega arith),
           cards-text (lineCount r - 1) (drop 40 r) (omega (arith, length-drop 40 r)),
         ) in
         record { lines = l; bytes = t; count-most = omega arith; size-most = omega (arith, cards-size) }
@@ -113,7 +113,7 @@ module _ (r : List ℕ) where
     unfolding sizeOf
     data-size = simp e
 
-    pub data-lines : linesOf r ≡ laid (dataPlan r) (shown r)
+    pub data-lines : linesOf r ≡ laid (dataPlan r) (shownWords r)
     unfolding linesOf
     data-lines = simp e
 
@@ -127,12 +127,12 @@ module _ (r : List ℕ) where
         let k : length r ≡ lprol + 2 * jpar + mpar * (nrow + 1) = d .sum in
         let n = data-count in
         let m : linesOfFields mpar * (nrow + 1) ≤ mpar * (nrow + 1) = mul-le-mul-right (nrow + 1) (omega arith) in
-        let sh : length (shown r) ≡ length r = omega (arith, length-drop 2 r) in
+        let sh : length (shownWords r) ≡ length r = omega (arith, length-drop 2 r) in
         let f = fieldsIn-plan lprol jpar mpar nrow in
         let p = length-plan lprol jpar mpar nrow in
-        let l : length (linesOf r) ≡ lineCount r = ap length data-lines ∙ length-laid (dataPlan r) (shown r) ∙ p ∙ sym n in
+        let l : length (linesOf r) ≡ lineCount r = ap length data-lines ∙ length-laid (dataPlan r) (shownWords r) ∙ p ∙ sym n in
         let t : length (ended (linesOf r)) ≡ sizeOf r =
-        ap (λ ls. length (ended ls)) data-lines ∙ omega (arith, data-size, length-text (dataPlan r) (shown r) (omega arith)) in
+        ap (λ ls. length (ended ls)) data-lines ∙ omega (arith, data-size, length-text (dataPlan r) (shownWords r) (omega arith)) in
         record { lines = l; bytes = t; count-most = omega arith; size-most = omega (arith, data-size) }
 
 pub sized : (r : List ℕ) → RecordOk r → Sized r
@@ -170,7 +170,7 @@ pub cards-are : (r : List ℕ) → (word r 2 ≡ 1002 → ⊥)
 unfolding ended
 cards-are r h =
     ap ended (cards-lines r (ne-eqb (word r 2) 1002 h))
-    ∙ sym (append-assoc (fieldsOf (take 20 (shown r))) (10 ∷ []) (ended (cardLines (lineCount r - 1) (drop 40 r))))
+    ∙ sym (append-assoc (fieldsOf (take 20 (shownWords r))) (10 ∷ []) (ended (cardLines (lineCount r - 1) (drop 40 r))))
 
 -- what a good record is by its kind
 pub record Cards (r : List ℕ) : Type 0 where

@@ -7,11 +7,11 @@ use Rattle.units.specs.Choice.{if_then_else_}
 use Rattle.words.specs.Words.{word}
 use Rattle.record.specs.Lines.{lineCount}
 use Rattle.units.specs.Units.{Line}
-use Rattle.line_plan.specs.Plan.{dataPlan, shown}
+use Rattle.line_plan.specs.Plan.{dataPlan, shownWords}
 use Rattle.write_parts.specs.Laid.{fieldsOf, laid, cardLines}
 
 -- a record's lines; "a Catalogue or Header prologue is one line of 20 fields"
 unfoldable pub linesOf : List ℕ → List Line
 linesOf r =
-    if eqb (word r 2) 1002 then laid (dataPlan r) (shown r)
-    else fieldsOf (take 20 (shown r)) ∷ cardLines (lineCount r - 1) (drop 40 r)
+    if eqb (word r 2) 1002 then laid (dataPlan r) (shownWords r)
+    else fieldsOf (take 20 (shownWords r)) ∷ cardLines (lineCount r - 1) (drop 40 r)

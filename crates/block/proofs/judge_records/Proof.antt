@@ -1,7 +1,7 @@
 use Rattle.words.proofs.Laws.{length-wordsOf}
 use Rattle.block.proofs.Walk.{walk-stop, walk-on, walk-end, rest-words}
 use Rattle.block.specs.Judging.{walk}
-use Rattle.record.proofs.Passed.{passed-room}
+use Rattle.record.proofs.Passed.{passed-size}
 use Rattle.record.specs.Judging.{judgeRecord}
 use Rattle.record.specs.Cases.{checkedOf}
 use Rattle.words.specs.Words.{wordsOf}
@@ -48,7 +48,7 @@ passes c = sym (found (c .before .before)) ∙ ap checkedOf (c .size .given .1)
 fits : (c : tie.After-size Inv-loop μ-loop) → (16 ≤ c .size .given .0 .0 .0) × (loop-before-size c .loop .at + c .size .given .0 .0 .0 ≤ loop-before-size c .before .count .result .0)
 fits c =
     let ws = wordsOf (now (start-before-part (c .before .before .before) .args .inner)) in
-    let r = passed-room _ _ _ (passes c) in
+    let r = passed-size _ _ _ (passes c) in
     let l = length-drop (loop-before-size c .loop .at) ws in
     (r .least, omega (arith, r .most))
 

@@ -1,7 +1,7 @@
 use Rattle.cedar.specs.Calls.{converted}
 use Rattle.units.specs.Answers.{Packs}
 use Rattle.read_text.proofs.Known.{answer-told}
-use Rattle.read_text.specs.Cases.{blockedOf}
+use Rattle.read_text.specs.Cases.{builtOf}
 use denote.Ref.{now}
 use native.Mathlib.Omega.{arith}
 use mathlib.Core.Path.{ap}
@@ -10,7 +10,7 @@ use Rattle.cedar.proofs.cedar_to_block.Statement.{statement}
 use Rattle.cedar.proofs.cedar_to_block.Tie as tie
 
 -- the answer has room in the packing
-room : (c : tie.After-to-block) → Packs (blockedOf (c .to-block .result))
+room : (c : tie.After-to-block) → Packs (builtOf (c .to-block .result))
 room c = let a = c .before .before .before .before .args in rw (ap (λ w. w .answer) (c .to-block .ensures)) (answer-told (now (a .text)) (now (a .block)) .packs)
 
 to-block-requires : tie.Need-to-block-requires

@@ -7,13 +7,13 @@ use borrow.Author.Needs.{needs}
 use lib.ListN.{length, drop, drop-of-length-le, length-drop}
 use Rattle.words.specs.Scans.{within}
 use Rattle.words.proofs.Scans.{scan-le}
-use Rattle.read_cut.specs.Cutting.{endLength}
-use Rattle.read_cut.proofs.FirstLine.{lineLength, lineStep, at-end, not-end, cut-behind, plain-line}
+use Rattle.read_cut.specs.Lines.{endLength}
+use Rattle.read_cut.proofs.FirstLine.{lineLength, lineWithEnd, at-end, not-end, cut-behind, plain-line}
 use Rattle.read_cut.proofs.next_line.Statement.{statement}
 use Rattle.read_cut.proofs.next_line.Tie as tie
 
 abbrev Inv-loop : tie.InvT-loop
-Inv-loop text plain i₀ i = (i₀ ≤ i) × (i ≤ length text) × (i + lineLength (drop i text) ≡ i₀ + lineLength (drop i₀ text)) × (i + lineStep (drop i text) ≡ i₀ + lineStep (drop i₀ text))
+Inv-loop text plain i₀ i = (i₀ ≤ i) × (i ≤ length text) × (i + lineLength (drop i text) ≡ i₀ + lineLength (drop i₀ text)) × (i + lineWithEnd (drop i text) ≡ i₀ + lineWithEnd (drop i₀ text))
 
 abbrev μ-loop : tie.MeasureT-loop
 μ-loop text plain i₀ i = length text - i
@@ -69,12 +69,12 @@ loop-again c = let l = c .before .before .before .loop in let t = now (c .before
     omega (arith, q .0, q .1)
 
 returns-2 : tie.Need-returns-2 Inv-loop μ-loop
-unfolding lineLength lineStep endLength
+unfolding lineLength lineWithEnd endLength
 returns-2 c = let l = c .before .loop in let s = c .before .before .before .before .before in let t = now (s .args .text) in
     let d : drop (l .i) t ≡ [] = drop-of-length-le t (c .loop-test .left) in
     record {
       line = record {
-        cut = cut-behind t (s .args .at .0) (c .before .before .before .plain-bytes .result) (l .i) (l .i) (c .before .before .before .plain-bytes .ensures) (l .inv .0) (s .pre) (omega (arith, ap lineLength d)) (omega (arith, ap lineStep d));
+        cut = cut-behind t (s .args .at .0) (c .before .before .before .plain-bytes .result) (l .i) (l .i) (c .before .before .before .plain-bytes .ensures) (l .inv .0) (s .pre) (omega (arith, ap lineLength d)) (omega (arith, ap lineWithEnd d));
         ends = omega (arith, ap endLength d);
         within = omega arith;
         onward = omega arith;

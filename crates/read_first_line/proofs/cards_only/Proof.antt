@@ -1,7 +1,7 @@
 use mathlib.Core.List.{append-nil}
 use lib.ListN.{replicate}
 use Rattle.line_plan.specs.Plan.{part, times}
-use Rattle.read_first_line.specs.Heading.{card}
+use Rattle.read_first_line.specs.FirstLine.{card}
 use Rattle.read_first_line.specs.State.{toCome, linesLeft}
 use Rattle.read_first_line.proofs.cards_only.Statement.{statement}
 use Rattle.read_first_line.proofs.cards_only.Tie as tie

@@ -2,7 +2,7 @@ use denote.Ref.{now}
 use mathlib.Core.Path.{_∙_}
 use lib.ListN.{take}
 use Rattle.read_columns.specs.Columns.{numbers}
-use Rattle.read_first_line.specs.Heading.{countFields, countsIn}
+use Rattle.read_first_line.specs.FirstLine.{countFields, countsIn}
 use Rattle.read_first_line.proofs.Steps.{flaw-read, good-read}
 use borrow.Author.Needs.{needs}
 use Rattle.read_first_line.proofs.count_fields.Statement.{statement}

@@ -4,7 +4,7 @@ use mathlib.Core.Path.{_≡_, _∙_}
 use Prim.Native.Nat.{_≤_}
 use native.Mathlib.Omega.{arith}
 use lib.Seq.{getD-take}
-use Rattle.read_first_line.specs.Heading.{dataLine}
+use Rattle.read_first_line.specs.FirstLine.{dataLine}
 use Rattle.read_first_line.proofs.Steps.{told, flaw-ends, good-goes}
 use Rattle.read_first_line.proofs.Fronts.{counted}
 use borrow.Author.Needs.{needs}

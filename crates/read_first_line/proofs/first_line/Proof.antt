@@ -2,7 +2,7 @@ use denote.Ref.{now}
 use mathlib.Core.List.{[]}
 use lib.ListN.{take}
 use Rattle.read_columns.specs.Columns.{numbers}
-use Rattle.read_first_line.specs.Heading.{kindLine, firstLine}
+use Rattle.read_first_line.specs.FirstLine.{kindLine, firstLine}
 use Rattle.read_first_line.proofs.Steps.{stops, same-step, flaw-read, good-read}
 use borrow.Author.Needs.{needs}
 use Rattle.read_first_line.proofs.first_line.Statement.{statement}
@@ -25,8 +25,8 @@ same-length c = search needs
 
 returns : tie.Need-returns
 unfolding firstLine
-returns c = let a = c .before .before .before .before .before .before .before .before .before .before .args in let num = a .num .0 in let so = a .so .0 in let l = now (a .line) in
-    stops (firstLine num so l) (c .before .f .given .0 .0) (flaw-read [] (kindLine num so l) (numbers num l 0 12) _ (c .before .f .given .1) (c .before .before .before .before .before .read-numbers .ensures))
+returns c = let a = c .before .before .before .before .before .before .before .before .before .before .args in let num = a .num .0 in let held = a .held .0 in let l = now (a .line) in
+    stops (firstLine num held l) (c .before .f .given .0 .0) (flaw-read [] (kindLine num held l) (numbers num l 0 12) _ (c .before .f .given .1) (c .before .before .before .before .before .read-numbers .ensures))
 
 same-length-2 : tie.Need-same-length-2
 same-length-2 c = search needs
@@ -36,8 +36,8 @@ same-length-3 c = search needs
 
 returns-2 : tie.Need-returns-2
 unfolding firstLine
-returns-2 c = let a = c .before .before .before .before .before .before .before .before .before .before .before .before .before .before .before .before .args in let num = a .num .0 in let so = a .so .0 in let l = now (a .line) in let row = c .before .before .before .before .before .before .before .before .before .before .before .read-numbers .last .1 .1 .1 .1 .0 in
-    same-step (kindLine num so l (take 12 row)) (firstLine num so l) (good-read [] (kindLine num so l) (numbers num l 0 12) (take 12 row) (c .before .before .before .before .before .before .before .enum-told .given .1) (c .before .before .before .before .before .before .before .before .before .before .before .read-numbers .ensures)) (c .before .before .before .before .kind-line .ensures)
+returns-2 c = let a = c .before .before .before .before .before .before .before .before .before .before .before .before .before .before .before .before .args in let num = a .num .0 in let held = a .held .0 in let l = now (a .line) in let row = c .before .before .before .before .before .before .before .before .before .before .before .read-numbers .last .1 .1 .1 .1 .0 in
+    same-step (kindLine num held l (take 12 row)) (firstLine num held l) (good-read [] (kindLine num held l) (numbers num l 0 12) (take 12 row) (c .before .before .before .before .before .before .before .enum-told .given .1) (c .before .before .before .before .before .before .before .before .before .before .before .read-numbers .ensures)) (c .before .before .before .before .kind-line .ensures)
 
 pub first-line-spec : {M : Type 1} → statement M
 first-line-spec =

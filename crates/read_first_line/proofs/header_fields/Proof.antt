@@ -4,7 +4,7 @@ use mathlib.Core.Path.{_∙_}
 use lib.ListN.{take}
 use Rattle.units.specs.Answers.{passed, onward}
 use Rattle.read_columns.specs.Columns.{numbers, zeros}
-use Rattle.read_first_line.specs.Heading.{headerFields}
+use Rattle.read_first_line.specs.FirstLine.{headerFields}
 use borrow.Author.Needs.{needs}
 use Rattle.read_first_line.proofs.header_fields.Statement.{statement}
 use Rattle.read_first_line.proofs.header_fields.Tie as tie

@@ -3,7 +3,7 @@ use denote.Ref.{now}
 use mathlib.Core.Path.{sym, _∙_}
 use borrow.Author.Tests.{eq-eqb, ne-eqb}
 use lib.ListN.{take, getD}
-use Rattle.read_first_line.specs.Heading.{kindLine, catalogueLine, headerLine, dataLine}
+use Rattle.read_first_line.specs.FirstLine.{kindLine, catalogueLine, headerLine, dataLine}
 use Rattle.read_first_line.proofs.Heads.{kind-is}
 use Rattle.read_first_line.proofs.Steps.{stops, same-step}
 use borrow.Author.Needs.{needs}
@@ -27,8 +27,8 @@ same-length-2 : tie.Need-same-length-2
 same-length-2 c = search needs
 
 returns : tie.Need-returns
-returns c = let a = c .before .before .before .before .before .before .before .before .before .before .args in let row = now (a .row) in let num = a .num .0 in let so = a .so .0 in let l = now (a .line) in
-    same-step (catalogueLine num so l (take 12 row)) (kindLine num so l (take 12 row)) (sym (kind-is num so l row ∙ simp (eq-eqb (getD row 1 0) 2101 (c .before .before .before .before .before .if1 .taken)))) (c .before .before .catalogue-line .ensures)
+returns c = let a = c .before .before .before .before .before .before .before .before .before .before .args in let row = now (a .row) in let num = a .num .0 in let held = a .held .0 in let l = now (a .line) in
+    same-step (catalogueLine num held l (take 12 row)) (kindLine num held l (take 12 row)) (sym (kind-is num held l row ∙ simp (eq-eqb (getD row 1 0) 2101 (c .before .before .before .before .before .if1 .taken)))) (c .before .before .catalogue-line .ensures)
 
 header-line-requires : tie.Need-header-line-requires
 header-line-requires c κs = search needs
@@ -40,8 +40,8 @@ same-length-4 : tie.Need-same-length-4
 same-length-4 c = search needs
 
 returns-2 : tie.Need-returns-2
-returns-2 c = let a = start-before-else1 (c .before .before .before .before .before .before .before .before) .args in let row = now (a .row) in let num = a .num .0 in let so = a .so .0 in let l = now (a .line) in
-    same-step (headerLine num so l (take 12 row)) (kindLine num so l (take 12 row)) (sym (kind-is num so l row ∙ simp (ne-eqb (getD row 1 0) 2101 (c .before .before .before .before .before .before .before .before .if1 .left), eq-eqb (getD row 1 0) 3101 (c .before .before .before .before .before .before .before .if2 .taken)))) (c .before .before .before .before .header-line .ensures)
+returns-2 c = let a = start-before-else1 (c .before .before .before .before .before .before .before .before) .args in let row = now (a .row) in let num = a .num .0 in let held = a .held .0 in let l = now (a .line) in
+    same-step (headerLine num held l (take 12 row)) (kindLine num held l (take 12 row)) (sym (kind-is num held l row ∙ simp (ne-eqb (getD row 1 0) 2101 (c .before .before .before .before .before .before .before .before .if1 .left), eq-eqb (getD row 1 0) 3101 (c .before .before .before .before .before .before .before .if2 .taken)))) (c .before .before .before .before .header-line .ensures)
 
 data-line-requires : tie.Need-data-line-requires
 data-line-requires c κs = search needs
@@ -53,12 +53,12 @@ same-length-6 : tie.Need-same-length-6
 same-length-6 c = search needs
 
 returns-3 : tie.Need-returns-3
-returns-3 c = let a = start-before-else1 (c .before .before .before .before .before .before .before .before .before) .args in let row = now (a .row) in let num = a .num .0 in let so = a .so .0 in let l = now (a .line) in
-    same-step (dataLine num so l (take 12 row)) (kindLine num so l (take 12 row)) (sym (kind-is num so l row ∙ simp (ne-eqb (getD row 1 0) 2101 (c .before .before .before .before .before .before .before .before .before .if1 .left), ne-eqb (getD row 1 0) 3101 (c .before .before .before .before .before .before .before .before .if2 .left), eq-eqb (getD row 1 0) 1101 (c .before .before .before .before .before .before .before .if3 .taken)))) (c .before .before .before .before .data-line .ensures)
+returns-3 c = let a = start-before-else1 (c .before .before .before .before .before .before .before .before .before) .args in let row = now (a .row) in let num = a .num .0 in let held = a .held .0 in let l = now (a .line) in
+    same-step (dataLine num held l (take 12 row)) (kindLine num held l (take 12 row)) (sym (kind-is num held l row ∙ simp (ne-eqb (getD row 1 0) 2101 (c .before .before .before .before .before .before .before .before .before .if1 .left), ne-eqb (getD row 1 0) 3101 (c .before .before .before .before .before .before .before .before .if2 .left), eq-eqb (getD row 1 0) 1101 (c .before .before .before .before .before .before .before .if3 .taken)))) (c .before .before .before .before .data-line .ensures)
 
 returns-4 : tie.Need-returns-4
-returns-4 c = let a = start-before-else1 (c .before .before) .args in let row = now (a .row) in let num = a .num .0 in let so = a .so .0 in let l = now (a .line) in
-    stops (kindLine num so l (take 12 row)) (Kind (a .num)) (sym (kind-is num so l row ∙ simp (ne-eqb (getD row 1 0) 2101 (c .before .before .if1 .left), ne-eqb (getD row 1 0) 3101 (c .before .if2 .left), ne-eqb (getD row 1 0) 1101 (c .if3 .left))))
+returns-4 c = let a = start-before-else1 (c .before .before) .args in let row = now (a .row) in let num = a .num .0 in let held = a .held .0 in let l = now (a .line) in
+    stops (kindLine num held l (take 12 row)) (Kind (a .num)) (sym (kind-is num held l row ∙ simp (ne-eqb (getD row 1 0) 2101 (c .before .before .if1 .left), ne-eqb (getD row 1 0) 3101 (c .before .if2 .left), ne-eqb (getD row 1 0) 1101 (c .if3 .left))))
 
 pub kind-line-spec : {M : Type 1} → statement M
 kind-line-spec =

@@ -46,7 +46,7 @@ add-sum c = let row = now (start-before-words-needed (c .before .before) .args .
 
 returns : tie.Need-returns
 returns c = let a = start-before-words-needed (c .before .before .before) .args in let pre = start-before-words-needed (c .before .before .before) .pre in
-    record { is = rw (plan-is (now (a .row)) (a .used .0) (omega (arith, pre .0, pre .2)) (a .num .0) (a .so .0) (pre .1), sym (c .before .before .before .words-needed .ensures)) (simp (lt-ltb 7998 (a .so .0 + c .before .before .before .words-needed .result .0) (c .if1 .taken))); near = tt }
+    record { is = rw (plan-is (now (a .row)) (a .used .0) (omega (arith, pre .0, pre .2)) (a .num .0) (a .held .0) (pre .1), sym (c .before .before .before .words-needed .ensures)) (simp (lt-ltb 7998 (a .held .0 + c .before .before .before .words-needed .result .0) (c .if1 .taken))); near = tt }
 
 lines-needed-requires : tie.Need-lines-needed-requires
 lines-needed-requires c κs = search needs
@@ -56,7 +56,7 @@ lines-said-requires c κs = search needs
 
 returns-2 : tie.Need-returns-2
 returns-2 c = let a = start-before-words-needed (words-needed-before-then2 c) .args in let pre = start-before-words-needed (words-needed-before-then2 c) .pre in
-    record { is = rw (plan-is (now (a .row)) (a .used .0) (omega (arith, pre .0, pre .2)) (a .num .0) (a .so .0) (pre .1), sym (words-needed-before-then2 c .words-needed .ensures), sym (c .before .before .before .before .lines-needed .ensures), sym (c .before .before .before .lines-said .ensures .0)) (simp (le-ltb 7998 (a .so .0 + words-needed-before-then2 c .words-needed .result .0) (c .before .before .before .before .before .if1 .left), ne-eqb (c .before .before .before .lines-said .result .0) (c .before .before .before .before .lines-needed .result .0) (c .if2 .taken))); near = tt }
+    record { is = rw (plan-is (now (a .row)) (a .used .0) (omega (arith, pre .0, pre .2)) (a .num .0) (a .held .0) (pre .1), sym (words-needed-before-then2 c .words-needed .ensures), sym (c .before .before .before .before .lines-needed .ensures), sym (c .before .before .before .lines-said .ensures .0)) (simp (le-ltb 7998 (a .held .0 + words-needed-before-then2 c .words-needed .result .0) (c .before .before .before .before .before .if1 .left), ne-eqb (c .before .before .before .lines-said .result .0) (c .before .before .before .before .lines-needed .result .0) (c .if2 .taken))); near = tt }
 
 add-behind : tie.Need-add-behind
 add-behind c = search needs
@@ -71,11 +71,11 @@ same-length : tie.Need-same-length
 same-length c = search needs
 
 returns-3 : tie.Need-returns-3
-returns-3 c = let a = start-before-words-needed (words-needed-before-data-plan c) .args in let pre = start-before-words-needed (words-needed-before-data-plan c) .pre in let so = a .so .0 in let row = now (a .row) in
+returns-3 c = let a = start-before-words-needed (words-needed-before-data-plan c) .args in let pre = start-before-words-needed (words-needed-before-data-plan c) .pre in let held = a .held .0 in let row = now (a .row) in
     let h : a .used .0 ≤ length row = omega (arith, pre .0, pre .2) in
     record {
-      is = rw (plan-is row (a .used .0) h (a .num .0) so (pre .1), sym (words-needed-before-data-plan c .words-needed .ensures), sym (c .before .before .before .before .before .before .before .before .before .before .before .lines-needed .ensures), sym (c .before .before .before .before .before .before .before .before .before .before .lines-said .ensures .0)) (simp (le-ltb 7998 (so + words-needed-before-data-plan c .words-needed .result .0) (c .before .before .before .before .before .before .before .before .before .before .before .before .if1 .left), eq-eqb (c .before .before .before .before .before .before .before .before .before .before .lines-said .result .0) (c .before .before .before .before .before .before .before .before .before .before .before .lines-needed .result .0) (c .before .before .before .before .before .before .before .if2 .left))
-          (passed-stand (c .data-plan .ensures) (ap (λ k. so + k) (sym (head-length row (a .used .0) h (words-needed-before-data-plan c .words-needed .result .0) 1002 (omega (arith, pre .1))))) (c .before .before .before .put-head .ensures)));
+      is = rw (plan-is row (a .used .0) h (a .num .0) held (pre .1), sym (words-needed-before-data-plan c .words-needed .ensures), sym (c .before .before .before .before .before .before .before .before .before .before .before .lines-needed .ensures), sym (c .before .before .before .before .before .before .before .before .before .before .lines-said .ensures .0)) (simp (le-ltb 7998 (held + words-needed-before-data-plan c .words-needed .result .0) (c .before .before .before .before .before .before .before .before .before .before .before .before .if1 .left), eq-eqb (c .before .before .before .before .before .before .before .before .before .before .lines-said .result .0) (c .before .before .before .before .before .before .before .before .before .before .before .lines-needed .result .0) (c .before .before .before .before .before .before .before .if2 .left))
+          (passed-stand (c .data-plan .ensures) (ap (λ k. held + k) (sym (head-length row (a .used .0) h (words-needed-before-data-plan c .words-needed .result .0) 1002 (omega (arith, pre .1))))) (c .before .before .before .put-head .ensures)));
       near = omega (arith, pre .0);
     }
 

@@ -28,20 +28,20 @@ bytes-of-words-requires c κs = search needs
 bytes-of-words-requires-2 : tie.Need-bytes-of-words-requires-2
 bytes-of-words-requires-2 c κs = search needs
 
-keep-filling-requires : tie.Need-keep-filling-requires
-keep-filling-requires c κs = search needs
+store-filling-requires : tie.Need-store-filling-requires
+store-filling-requires c κs = search needs
 
 same-length : tie.Need-same-length
 same-length c = search needs
 
 returns : tie.Need-returns
-returns c = let a = c .before .before .before .before .before .before .before .before .before .before .before .before .before .args in let pre = c .before .before .before .before .before .before .before .before .before .before .before .before .before .pre in let n = a .used .0 in let so = a .so .0 in
+returns c = let a = c .before .before .before .before .before .before .before .before .before .before .before .before .before .args in let pre = c .before .before .before .before .before .before .before .before .before .before .before .before .before .pre in let n = a .used .0 in let held = a .held .0 in
     let head = a .total .0 ∷ (a .kind ∷ slice 2 n (now (a .row))) in
     let long : length head ≡ n = head-length (now (a .row)) n (omega (arith, pre .2, pre .3)) (a .total .0) (a .kind) (pre .1) in
-    let at : c .before .before .before .before .before .bytes-of-words .result .0 ≡ (so + length head + 1) * 2 = omega (arith, c .before .before .before .before .before .bytes-of-words .ensures, long) in
+    let at : c .before .before .before .before .before .bytes-of-words .result .0 ≡ (held + length head + 1) * 2 = omega (arith, c .before .before .before .before .before .bytes-of-words .ensures, long) in
     let size : c .before .before .before .before .bytes-of-words2 .result .0 ≡ (40 - n) * 2 = c .before .before .before .before .bytes-of-words2 .ensures in
-    c .before .before .keep-filling .ensures
-    ∙ rw (at, size, sym (zero-bytes (40 - n)), c .before .before .before .before .before .before .before .before .put-head .ensures) (sym (put-append so (now (a .block)) head (replicate (40 - n) 0)))
+    c .before .before .store-filling .ensures
+    ∙ rw (at, size, sym (zero-bytes (40 - n)), c .before .before .before .before .before .before .before .before .put-head .ensures) (sym (put-append held (now (a .block)) head (replicate (40 - n) 0)))
 
 pub put-cards-head-spec : {M : Type 1} → statement M
 put-cards-head-spec =
@@ -53,6 +53,6 @@ put-cards-head-spec =
     put-head-requires
     bytes-of-words-requires
     bytes-of-words-requires-2
-    keep-filling-requires
+    store-filling-requires
     same-length
     returns)

@@ -21,24 +21,24 @@ add-third c = search needs
 saying-words-requires : tie.Need-saying-words-requires
 saying-words-requires c κs = search needs
 
-keep-word-requires : tie.Need-keep-word-requires
-keep-word-requires c κs = search needs
+store-word-requires : tie.Need-store-word-requires
+store-word-requires c κs = search needs
 
-keep-word-requires-2 : tie.Need-keep-word-requires-2
-keep-word-requires-2 c κs = search needs
+store-word-requires-2 : tie.Need-store-word-requires-2
+store-word-requires-2 c κs = search needs
 
-keep-words-requires : tie.Need-keep-words-requires
-keep-words-requires c κs = search needs
+store-words-requires : tie.Need-store-words-requires
+store-words-requires c κs = search needs
 
 same-length : tie.Need-same-length
 same-length c = search needs
 
 returns : tie.Need-returns
-returns c = let f = c .before .before .before .before .before .before .before .before .before .before in let a = f .before .before .before .before .before .before .args in let so = a .so .0 in let ltot = f .before .before .saying-words in
+returns c = let f = c .before .before .before .before .before .before .before .before .before .before in let a = f .before .before .before .before .before .before .args in let held = a .held .0 in let ltot = f .before .before .saying-words in
     rw (← ltot .ensures)
-    (c .before .before .keep-words .ensures
-    ∙ ap (λ o. sets o ((so + 1 + 1 + 1) * 2) (bytesOf (slice 2 (a .used .0) (now (a .row))))) (c .before .before .before .before .before .before .keep-word2 .ensures ∙ ap (λ o. sets o ((so + 1 + 1) * 2) (bytesOf (a .kind ∷ []))) (f .keep-word .ensures))
-    ∙ put-three so (now (a .block)) (ltot .result) (a .kind) (slice 2 (a .used .0) (now (a .row))))
+    (c .before .before .store-words .ensures
+    ∙ ap (λ o. sets o ((held + 1 + 1 + 1) * 2) (bytesOf (slice 2 (a .used .0) (now (a .row))))) (c .before .before .before .before .before .before .store-word2 .ensures ∙ ap (λ o. sets o ((held + 1 + 1) * 2) (bytesOf (a .kind ∷ []))) (f .store-word .ensures))
+    ∙ put-three held (now (a .block)) (ltot .result) (a .kind) (slice 2 (a .used .0) (now (a .row))))
 
 pub put-head-spec : {M : Type 1} → statement M
 put-head-spec =
@@ -48,8 +48,8 @@ put-head-spec =
     add-second
     add-third
     saying-words-requires
-    keep-word-requires
-    keep-word-requires-2
-    keep-words-requires
+    store-word-requires
+    store-word-requires-2
+    store-words-requires
     same-length
     returns)

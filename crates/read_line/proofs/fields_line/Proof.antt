@@ -45,15 +45,15 @@ enum-known-f c = search needs
 enum-told : tie.Need-enum-told
 enum-told c = search needs
 
-keep-words-requires : tie.Need-keep-words-requires
-keep-words-requires c κs = search needs
+store-words-requires : tie.Need-store-words-requires
+store-words-requires c κs = search needs
 
 same-length : tie.Need-same-length
 same-length c = search needs
 
 returns : tie.Need-returns
 returns c = let a = start-before-row (c .before .before .before .before) .args in
-    same-step _ _ (sym (fields-is (a .num .0) (a .so .0) (now (a .line)) (toCome (a .p)) (toCome (c .before .before .before .before .before .before .before .one-line-less .result)) (on-line-before-row (c .before .before .before .before) .on-line .result .0) (c .before .before .before .before .before .before .before .one-line-less .ensures)))
+    same-step _ _ (sym (fields-is (a .num .0) (a .held .0) (now (a .line)) (toCome (a .p)) (toCome (c .before .before .before .before .before .before .before .one-line-less .result)) (on-line-before-row (c .before .before .before .before) .on-line .result .0) (c .before .before .before .before .before .before .before .one-line-less .ensures)))
     (flaw-ends _ _ _ (c .before .f .given .1) (c .before .before .before .before .before .row-fields .ensures))
 
 same-length-2 : tie.Need-same-length-2
@@ -66,9 +66,9 @@ returns-2 : tie.Need-returns-2
 returns-2 c = let a = start-before-row (row-before-block (c .before)) .args in let n = on-line-before-row (row-before-block (c .before)) .on-line .result .0 in let row = row-fields-before-block (c .before) .row-fields .last .1 .1 .1 .0 in
     let kept : length row ≡ length (now (a .row)) = row-fields-before-block (c .before) .row-fields .kept .1 .1 .1 .0 in
     let most : n ≤ 20 = omega (arith, on-line-before-row (row-before-block (c .before)) .on-line .ensures) in
-    same-step _ _ (sym (fields-is (a .num .0) (a .so .0) (now (a .line)) (toCome (a .p)) (toCome (row-fields-before-block (c .before) .before .before .one-line-less .result)) n (row-fields-before-block (c .before) .before .before .one-line-less .ensures)))
+    same-step _ _ (sym (fields-is (a .num .0) (a .held .0) (now (a .line)) (toCome (a .p)) (toCome (row-fields-before-block (c .before) .before .before .one-line-less .result)) n (row-fields-before-block (c .before) .before .before .one-line-less .ensures)))
     (good-goes _ _ (take n row) (c .before .before .before .before .before .enum-told .given .1) (row-fields-before-block (c .before) .row-fields .ensures)
-    (record { is = passed-stand refl (ap (λ k. a .so .0 + k) (sym (length-take-le n row (omega (arith, kept, start-before-row (row-before-block (c .before)) .pre .2))))) (c .before .before .keep-words .ensures); near = omega arith }))
+    (record { is = passed-stand refl (ap (λ k. a .held .0 + k) (sym (length-take-le n row (omega (arith, kept, start-before-row (row-before-block (c .before)) .pre .2))))) (c .before .before .store-words .ensures); near = omega arith }))
 
 pub fields-line-spec : {M : Type 1} → statement M
 fields-line-spec =
@@ -81,7 +81,7 @@ fields-line-spec =
     row-fields-requires
     enum-known-f
     enum-told
-    keep-words-requires
+    store-words-requires
     same-length
     returns
     same-length-2

@@ -4,7 +4,7 @@ use mathlib.Core.List.{_++_, map}
 use native.Mathlib.Omega.{arith}
 use lib.ListN.{replicate}
 use Rattle.line_plan.specs.Plan.{part, times}
-use Rattle.read_first_line.specs.Heading.{card, fields}
+use Rattle.read_first_line.specs.FirstLine.{card, fields}
 use Rattle.read_first_line.specs.State.{toCome, linesLeft}
 use borrow.Author.Needs.{needs}
 use Rattle.read_line.proofs.next_row.Statement.{statement}

@@ -4,8 +4,8 @@ use mathlib.Core.List.{[]}
 use native.Mathlib.Nat.{add-zero}
 use native.Mathlib.Omega.{arith}
 use borrow.Author.Tests.{eq-eqb, ne-eqb}
-use Rattle.read_first_line.specs.Heading.{firstLine}
-use Rattle.read_line.specs.Reading.{inState}
+use Rattle.read_first_line.specs.FirstLine.{firstLine}
+use Rattle.read_line.specs.Lines.{inState}
 use Rattle.read_first_line.proofs.Steps.{same-step, passed-stand}
 use Rattle.words.specs.Words.{bytesOf}
 use borrow.Author.Needs.{needs}
@@ -25,7 +25,7 @@ ink-after-requires c κs = search needs
 returns : tie.Need-returns
 unfolding inState bytesOf
 returns c = let a = start-before-ink-after (c .before .before) .args in
-    record { is = rw (sym (c .before .before .ink-after .ensures)) (simp (eq-eqb (c .before .before .ink-after .result .0) 0 (c .if1 .taken)) (passed-stand (start-before-ink-after (c .before .before) .pre .0) (sym (add-zero (a .so .0))) refl)); near = omega arith }
+    record { is = rw (sym (c .before .before .ink-after .ensures)) (simp (eq-eqb (c .before .before .ink-after .result .0) 0 (c .if1 .taken)) (passed-stand (start-before-ink-after (c .before .before) .pre .0) (sym (add-zero (a .held .0))) refl)); near = omega arith }
 
 first-line-requires : tie.Need-first-line-requires
 first-line-requires c κs = search needs
@@ -38,8 +38,8 @@ same-length-2 c = search needs
 
 returns-2 : tie.Need-returns-2
 unfolding inState
-returns-2 c = let a = start-before-ink-after (ink-after-before-block (c .before)) .args in let num = a .num .0 in let so = a .so .0 in let l = now (a .line) in
-    same-step (firstLine num so l) (inState num so [] l) (rw (sym (ink-after-before-block (c .before) .ink-after .ensures)) (simp (ne-eqb (ink-after-before-block (c .before) .ink-after .result .0) 0 (c .before .before .before .before .before .before .before .if1 .left)))) (c .before .before .before .before .first-line .ensures)
+returns-2 c = let a = start-before-ink-after (ink-after-before-block (c .before)) .args in let num = a .num .0 in let held = a .held .0 in let l = now (a .line) in
+    same-step (firstLine num held l) (inState num held [] l) (rw (sym (ink-after-before-block (c .before) .ink-after .ensures)) (simp (ne-eqb (ink-after-before-block (c .before) .ink-after .result .0) 0 (c .before .before .before .before .before .before .before .if1 .left)))) (c .before .before .before .before .first-line .ensures)
 
 pub open-line-spec : {M : Type 1} → statement M
 open-line-spec =

@@ -22,11 +22,11 @@ add-first c = search needs
 bytes-of-words-requires : tie.Need-bytes-of-words-requires
 bytes-of-words-requires c κs = search needs
 
-slice-aggregate-keep-bytes : tie.Need-slice-aggregate-keep-bytes
-slice-aggregate-keep-bytes c = sym (length-take-le 80 (now (start-before-bytes-of-words (c .before .before) .args .line)) (c .before .if1 .taken))
+slice-aggregate-store-bytes : tie.Need-slice-aggregate-store-bytes
+slice-aggregate-store-bytes c = sym (length-take-le 80 (now (start-before-bytes-of-words (c .before .before) .args .line)) (c .before .if1 .taken))
 
-keep-bytes-requires : tie.Need-keep-bytes-requires
-keep-bytes-requires c κs = search needs
+store-bytes-requires : tie.Need-store-bytes-requires
+store-bytes-requires c κs = search needs
 
 same-length : tie.Need-same-length
 same-length c = search needs
@@ -34,7 +34,7 @@ same-length c = search needs
 returns : tie.Need-returns
 returns c = let a = start-before-bytes-of-words (c .before .before .before .before .before .before) .args in let l = now (a .line) in
     let below : Below 256 l = all-below 256 l (λ i. omega (arith, c .before .before .before .before .before .before .before .before .before .shared-slice-known .given i)) in
-    c .before .before .keep-bytes .ensures ∙ rw (c .before .before .before .before .before .before .bytes-of-words .ensures, card-bytes l below, long-card l (c .before .before .before .before .before .if1 .taken))
+    c .before .before .store-bytes .ensures ∙ rw (c .before .before .before .before .before .before .bytes-of-words .ensures, card-bytes l below, long-card l (c .before .before .before .before .before .if1 .taken))
 
 sub-left : tie.Need-sub-left
 sub-left c = search needs
@@ -42,11 +42,11 @@ sub-left c = search needs
 add-next : tie.Need-add-next
 add-next c = search needs
 
-keep-bytes-requires-2 : tie.Need-keep-bytes-requires-2
-keep-bytes-requires-2 c κs = search needs
+store-bytes-requires-2 : tie.Need-store-bytes-requires-2
+store-bytes-requires-2 c κs = search needs
 
-keep-filling-requires : tie.Need-keep-filling-requires
-keep-filling-requires c κs = search needs
+store-filling-requires : tie.Need-store-filling-requires
+store-filling-requires c κs = search needs
 
 same-length-2 : tie.Need-same-length-2
 same-length-2 c = search needs
@@ -54,7 +54,7 @@ same-length-2 c = search needs
 returns-2 : tie.Need-returns-2
 returns-2 c = let a = start-before-bytes-of-words (c .before .before .before .before .before .before .before .before .before) .args in let l = now (a .line) in
     let below : Below 256 l = all-below 256 l (λ i. omega (arith, c .before .before .before .before .before .before .before .before .before .before .before .before .shared-slice-known .given i)) in
-    c .before .before .keep-filling .ensures ∙ rw (c .before .before .before .before .before .before .keep-bytes2 .ensures, c .before .before .before .before .before .before .before .before .before .bytes-of-words .ensures, card-bytes l below, short-card l (c .before .before .before .before .before .before .before .before .if1 .left)) (sym (sets-append (now (a .block)) ((a .so .0 + 1) * 2) l (replicate (80 - length l) 32)))
+    c .before .before .store-filling .ensures ∙ rw (c .before .before .before .before .before .before .store-bytes2 .ensures, c .before .before .before .before .before .before .before .before .before .bytes-of-words .ensures, card-bytes l below, short-card l (c .before .before .before .before .before .before .before .before .if1 .left)) (sym (sets-append (now (a .block)) ((a .held .0 + 1) * 2) l (replicate (80 - length l) 32)))
 
 pub put-card-spec : {M : Type 1} → statement M
 put-card-spec =
@@ -62,13 +62,13 @@ put-card-spec =
     (tie.spec
     add-first
     bytes-of-words-requires
-    slice-aggregate-keep-bytes
-    keep-bytes-requires
+    slice-aggregate-store-bytes
+    store-bytes-requires
     same-length
     returns
     sub-left
     add-next
-    keep-bytes-requires-2
-    keep-filling-requires
+    store-bytes-requires-2
+    store-filling-requires
     same-length-2
     returns-2)

@@ -3,7 +3,7 @@ use mathlib.Core.Path.{_≡_, sym, ap, _∙_}
 use native.Mathlib.Omega.{arith}
 use borrow.Author.Tests.{lt-ltb, le-ltb}
 use Rattle.read_columns.specs.declared.Flaw.the-variants.{Byte}
-use Rattle.read_line.specs.Reading.{inState, lineStep}
+use Rattle.read_line.specs.Lines.{inState, readLine}
 use Rattle.read_first_line.specs.State.{toCome}
 use Rattle.read_first_line.proofs.Steps.{stops, same-step}
 use Rattle.read_line.proofs.ToCome.{none-to-come}
@@ -23,16 +23,16 @@ settled-before-block3 c = settled-before-else3 (c .before .before .before .befor
 
 -- a line without a bad byte, where the same is to come
 clean-line : (c : tie.After-settled) → let a = start-before-settled c .args in
-    inState (a .num .0) (a .so .0) (toCome (c .settled .result)) (now (a .line)) ≡ lineStep (a .num .0) (a .so .0) (toCome (a .plan)) (now (a .line))
-unfolding lineStep
-clean-line c = let a = start-before-settled c .args in rw (sym (c .before .before .before .bad-column .ensures)) (simp (le-ltb 0 (c .before .before .before .bad-column .result .0) (c .before .if1 .left)) (ap (λ s. inState (a .num .0) (a .so .0) s (now (a .line))) (c .settled .ensures .0)))
+    inState (a .num .0) (a .held .0) (toCome (c .settled .result)) (now (a .line)) ≡ readLine (a .num .0) (a .held .0) (toCome (a .plan)) (now (a .line))
+unfolding readLine
+clean-line c = let a = start-before-settled c .args in rw (sym (c .before .before .before .bad-column .ensures)) (simp (le-ltb 0 (c .before .before .before .bad-column .result .0) (c .before .if1 .left)) (ap (λ s. inState (a .num .0) (a .held .0) s (now (a .line))) (c .settled .ensures .0)))
 
 bad-column-requires : tie.Need-bad-column-requires
 bad-column-requires c κs = search needs
 
 returns : tie.Need-returns
-unfolding lineStep
-returns c = let a = c .before .before .before .before .before .before .args in stops (lineStep (a .num .0) (a .so .0) (toCome (a .plan)) (now (a .line))) (Byte (a .num) (c .before .before .bad-column .result)) (rw (sym (c .before .before .bad-column .ensures)) (simp (lt-ltb 0 (c .before .before .bad-column .result .0) (c .if1 .taken))))
+unfolding readLine
+returns c = let a = c .before .before .before .before .before .before .args in stops (readLine (a .num .0) (a .held .0) (toCome (a .plan)) (now (a .line))) (Byte (a .num) (c .before .before .bad-column .result)) (rw (sym (c .before .before .bad-column .ensures)) (simp (lt-ltb 0 (c .before .before .bad-column .result .0) (c .if1 .taken))))
 
 settled-requires : tie.Need-settled-requires
 settled-requires c κs = search needs
@@ -69,7 +69,7 @@ same-length-5 c = search needs
 
 returns-4 : tie.Need-returns-4
 returns-4 c = let a = start-before-settled (settled-before-block3 (c .before)) .args in let none = none-to-come (settled-before-block3 (c .before) .settled .result) (omega (arith, c .before .before .before .before .before .before .before .before .before .if2 .left)) (settled-before-block3 (c .before) .settled .ensures .1 (omega (arith, c .before .before .before .before .before .before .before .if3 .left))) in
-    same-step _ _ (ap (λ s. inState (a .num .0) (a .so .0) s (now (a .line))) (sym none) ∙ clean-line (settled-before-block3 (c .before))) (c .before .before .before .before .open-line .ensures)
+    same-step _ _ (ap (λ s. inState (a .num .0) (a .held .0) s (now (a .line))) (sym none) ∙ clean-line (settled-before-block3 (c .before))) (c .before .before .before .before .open-line .ensures)
 
 pub read-line-spec : {M : Type 1} → statement M
 read-line-spec =

@@ -8,7 +8,7 @@ use lib.ListN.{take}
 use Rattle.units.specs.Answers.{passed, onward}
 use Rattle.read_columns.specs.Columns.{numbers, blankAfter}
 use Rattle.read_columns.specs.Cases.{checkedOf}
-use Rattle.read_line.specs.Reading.{rowFields}
+use Rattle.read_line.specs.Lines.{rowFields}
 use Rattle.read_first_line.proofs.Steps.{checked-on, flaw-read, good-read}
 use borrow.Author.Needs.{needs}
 use Rattle.read_line.proofs.row_fields.Statement.{statement}

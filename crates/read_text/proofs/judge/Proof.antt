@@ -2,7 +2,7 @@ use Rattle.read_text.proofs.Outcome.{too-long, line-by-line, counted}
 use denote.Ref.{now}
 use mathlib.Core.Path.{sym, ap, _∙_}
 use mathlib.Core.List.{[]}
-use Rattle.read_text.specs.Content.{kept}
+use Rattle.read_text.specs.Content.{stored}
 use Rattle.read_text.specs.Block.{wordsIn}
 use borrow.Author.Needs.{needs}
 use Rattle.read_text.proofs.judge.Statement.{statement}
@@ -20,7 +20,7 @@ read-lines-requires c κs = search needs
 
 returns-2 : tie.Need-returns-2
 returns-2 c = let t = now (c .before .before .before .before .before .args .text) in
-    counted t [] (c .before .read-lines .last .1 .0) (c .before .read-lines .result) (c .before .read-lines .ensures ∙ ap (kept 0 []) (sym (line-by-line t (c .before .before .before .if1 .left))))
+    counted t [] (c .before .read-lines .last .1 .0) (c .before .read-lines .result) (c .before .read-lines .ensures ∙ ap (stored 0 []) (sym (line-by-line t (c .before .before .before .if1 .left))))
 
 pub judge-spec : {M : Type 1} → statement M
 judge-spec = tie.close (tie.spec returns slice-aggregate-read-lines read-lines-requires returns-2)

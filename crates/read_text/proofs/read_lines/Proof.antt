@@ -6,18 +6,18 @@ use Prim.Native.Nat.{ℕ, _-_}
 use native.Mathlib.Omega.{arith}
 use borrow.Author.Needs.{needs}
 use lib.ListN.{length, take, drop, drop-of-length-le}
-use Rattle.read_cut.specs.Cutting.{linesIn}
-use Rattle.read_line.specs.Reading.{readLines}
-use Rattle.read_first_line.specs.State.{toCome, stepOf}
-use Rattle.read_text.specs.Content.{kept}
+use Rattle.read_cut.specs.Lines.{linesIn}
+use Rattle.read_line.specs.Lines.{readLines}
+use Rattle.read_first_line.specs.State.{toCome, standOf}
+use Rattle.read_text.specs.Content.{stored}
 use Rattle.read_text.proofs.read_lines.Statement.{statement}
 use Rattle.read_text.proofs.read_lines.Tie as tie
 
 abbrev Inv-loop : tie.InvT-loop
-Inv-loop text block₀ row₀ plan₀ so₀ num₀ at₀ block row plan so num at = Going text block₀ block row (toCome plan) (so .0) num at
+Inv-loop text block₀ row₀ plan₀ held₀ num₀ at₀ block row plan held num at = Going text block₀ block row (toCome plan) (held .0) num at
 
 abbrev μ-loop : tie.MeasureT-loop
-μ-loop text block₀ row₀ plan₀ so₀ num₀ at₀ block row plan so num at = length text - at
+μ-loop text block₀ row₀ plan₀ held₀ num₀ at₀ block row plan held num at = length text - at
 
 -- back from one place to another
 abbrev start-before-next-line : tie.After-next-line Inv-loop μ-loop → tie.Start Inv-loop μ-loop
@@ -44,14 +44,14 @@ others c = linesIn (drop (c .next-line .result .next .0) (now (start-before-next
 
 -- what was to be read before the line is the whole
 before : (c : tie.After-next-line Inv-loop μ-loop) → let l = c .before .before .loop in
-    kept (l .so .0) (l .block) (readLines (l .num) (l .so .0) (toCome (l .plan)) (line c ∷ others c)) ≡ kept 0 (now (start-before-next-line c .args .block)) (readLines 1 0 [] (linesIn (now (start-before-next-line c .args .text))))
-before c = let l = c .before .before .loop in ap (λ x. kept (l .so .0) (l .block) (readLines (l .num) (l .so .0) (toCome (l .plan)) x)) (sym (c .next-line .ensures .line .cut)) ∙ l .inv .same
+    stored (l .held .0) (l .block) (readLines (l .num) (l .held .0) (toCome (l .plan)) (line c ∷ others c)) ≡ stored 0 (now (start-before-next-line c .args .block)) (readLines 1 0 [] (linesIn (now (start-before-next-line c .args .text))))
+before c = let l = c .before .before .loop in ap (λ x. stored (l .held .0) (l .block) (readLines (l .num) (l .held .0) (toCome (l .plan)) x)) (sym (c .next-line .ensures .line .cut)) ∙ l .inv .same
 
 cards-only-requires : tie.Need-cards-only-requires Inv-loop μ-loop
 cards-only-requires c κs = tt
 
 loop-holds : tie.Need-loop-holds Inv-loop μ-loop
-loop-holds c = record { same = ap (λ r. kept 0 (now (c .before .before .before .args .block)) (readLines 1 0 r (linesIn (now (c .before .before .before .args .text))))) (c .cards-only .ensures); length-kept = refl; row-long = refl; lines-most = omega arith; words-most = omega arith }
+loop-holds c = record { same = ap (λ r. stored 0 (now (c .before .before .before .args .block)) (readLines 1 0 r (linesIn (now (c .before .before .before .args .text))))) (c .cards-only .ensures); length-kept = refl; row-long = refl; lines-most = omega arith; words-most = omega arith }
 
 next-line-requires : tie.Need-next-line-requires Inv-loop μ-loop
 next-line-requires c κs = search needs
@@ -79,7 +79,7 @@ same-length c = let l = next-line-before-f (c .before) .before .before .loop in 
 
 returns : tie.Need-returns Inv-loop μ-loop
 returns c = let l = next-line-before-f (c .before) .before .before .loop in let b = read-line-before-f (c .before) .read-line .last .1 .1 .1 .1 .1 .1 .0 in
-    sym (end (l .num) (l .so .0) (toCome (l .plan)) (line (next-line-before-f (c .before))) (others (next-line-before-f (c .before))) (l .block) b (c .before .f .given .0 .0) (ap (stepOf b) (sym (c .before .f .given .1)) ∙ read-line-before-f (c .before) .read-line .ensures .is)) ∙ before (next-line-before-f (c .before))
+    sym (end (l .num) (l .held .0) (toCome (l .plan)) (line (next-line-before-f (c .before))) (others (next-line-before-f (c .before))) (l .block) b (c .before .f .given .0 .0) (ap (standOf b) (sym (c .before .f .given .1)) ∙ read-line-before-f (c .before) .read-line .ensures .is)) ∙ before (next-line-before-f (c .before))
 
 enum-known-p : tie.Need-enum-known-p Inv-loop μ-loop
 enum-known-p c = search needs
@@ -95,11 +95,11 @@ loop-again c = let l = next-line-before-p (c .before) .before .before .loop in l
     let kept-block : length b ≡ length (l .block) = read-line-before-p (c .before) .read-line .kept .1 .1 .1 .1 .1 .1 .0 in
     let kept-row : length (read-line-before-p (c .before) .read-line .last .1 .1 .1 .1 .1 .0) ≡ length (l .row) = read-line-before-p (c .before) .read-line .kept .1 .1 .1 .1 .1 .0 in
     record {
-      same = sym (turn (l .num) (l .so .0) (toCome (l .plan)) (line (next-line-before-p (c .before))) (others (next-line-before-p (c .before))) (l .block) b p n (ap (stepOf b) (sym (c .before .p .given .1)) ∙ read-line-before-p (c .before) .read-line .ensures .is)) ∙ before (next-line-before-p (c .before));
+      same = sym (turn (l .num) (l .held .0) (toCome (l .plan)) (line (next-line-before-p (c .before))) (others (next-line-before-p (c .before))) (l .block) b p n (ap (standOf b) (sym (c .before .p .given .1)) ∙ read-line-before-p (c .before) .read-line .ensures .is)) ∙ before (next-line-before-p (c .before));
       length-kept = kept-block ∙ g .length-kept;
       row-long = kept-row ∙ g .row-long;
       lines-most = omega (arith, g .lines-most, next-line-before-p (c .before) .next-line .ensures .line .onward);
-      words-most = omega (arith, g .words-most, near-next (l .so .0) p n (read-line-before-p (c .before) .read-line .result) (c .before .p .given .1) (read-line-before-p (c .before) .read-line .ensures .near));
+      words-most = omega (arith, g .words-most, near-next (l .held .0) p n (read-line-before-p (c .before) .read-line .result) (c .before .p .given .1) (read-line-before-p (c .before) .read-line .ensures .near));
     }
 
 at-end-requires : tie.Need-at-end-requires Inv-loop μ-loop
@@ -111,7 +111,7 @@ same-length-2 c = c .before .before .loop .inv .length-kept
 returns-2 : tie.Need-returns-2 Inv-loop μ-loop
 unfolding linesIn readLines
 returns-2 c = let l = c .before .before .loop in let t = now (c .before .before .before .before .before .before .args .text) in
-    c .at-end .ensures (l .block) ∙ ap (λ x. kept (l .so .0) (l .block) (readLines (l .num) (l .so .0) (toCome (l .plan)) (linesIn x))) (sym (drop-of-length-le t {i = l .at} (c .before .loop-test .left))) ∙ l .inv .same
+    c .at-end .ensures (l .block) ∙ ap (λ x. stored (l .held .0) (l .block) (readLines (l .num) (l .held .0) (toCome (l .plan)) (linesIn x))) (sym (drop-of-length-le t {i = l .at} (c .before .loop-test .left))) ∙ l .inv .same
 
 pub read-lines-spec : {M : Type 1} → statement M
 read-lines-spec =

@@ -8,10 +8,10 @@ use native.Mathlib.Numerals.{add-one}
 use lib.ListN.{set, length-set}
 use lib.Seq.{set-out}
 use Rattle.words.specs.Words.{bytesOf}
-use Rattle.read_store.proofs.Keeping.{sets-out}
+use Rattle.read_store.proofs.Storing.{sets-out}
 use borrow.Author.Needs.{needs}
-use Rattle.read_store.proofs.keep_word.Statement.{statement}
-use Rattle.read_store.proofs.keep_word.Tie as tie
+use Rattle.read_store.proofs.store_word.Statement.{statement}
+use Rattle.read_store.proofs.store_word.Tie as tie
 
 bytes-of-words-requires : tie.Need-bytes-of-words-requires
 bytes-of-words-requires c κs = search needs
@@ -49,8 +49,8 @@ returns-3 : tie.Need-returns-3
 unfolding bytesOf
 returns-3 c = rw (add-one, c .before .before .bytes-of-words .ensures)
 
-pub keep-word-spec : {M : Type 1} → statement M
-keep-word-spec =
+pub store-word-spec : {M : Type 1} → statement M
+store-word-spec =
     tie.close
     (tie.spec
     bytes-of-words-requires

@@ -7,9 +7,9 @@ use borrow.Author.Needs.{needs}
 use lib.ListN.{length, getD}
 use lib.Seq.{sets, slice, length-sets}
 use Rattle.words.specs.Words.{bytesOf}
-use Rattle.read_store.proofs.Keeping.{sets-out, word-on, words-done}
-use Rattle.read_store.proofs.keep_words.Statement.{statement}
-use Rattle.read_store.proofs.keep_words.Tie as tie
+use Rattle.read_store.proofs.Storing.{sets-out, word-on, words-done}
+use Rattle.read_store.proofs.store_words.Statement.{statement}
+use Rattle.read_store.proofs.store_words.Tie as tie
 
 abbrev Inv-loop : tie.InvT-loop
 Inv-loop row out₀ end k₀ to₀ out k to = (length out ≡ length out₀) × (to + k₀ ≡ to₀ + k) × (sets out (to * 2) (bytesOf (slice k end row)) ≡ sets out₀ (to₀ * 2) (bytesOf (slice k₀ end row)))
@@ -30,14 +30,14 @@ returns c = let a = c .before .before .before .args in sym (sets-out (now (a .ou
 loop-holds : tie.Need-loop-holds Inv-loop μ-loop
 loop-holds c = (refl, refl, refl)
 
-mul-keep-word : tie.Need-mul-keep-word Inv-loop μ-loop
-mul-keep-word c = search needs
+mul-store-word : tie.Need-mul-store-word Inv-loop μ-loop
+mul-store-word c = search needs
 
-shared-slice-read-keep-word : tie.Need-shared-slice-read-keep-word Inv-loop μ-loop
-shared-slice-read-keep-word c = search needs
+shared-slice-read-store-word : tie.Need-shared-slice-read-store-word Inv-loop μ-loop
+shared-slice-read-store-word c = search needs
 
-keep-word-requires : tie.Need-keep-word-requires Inv-loop μ-loop
-keep-word-requires c κs = omega arith
+store-word-requires : tie.Need-store-word-requires Inv-loop μ-loop
+store-word-requires c κs = omega arith
 
 add-k : tie.Need-add-k Inv-loop μ-loop
 add-k c = search needs
@@ -50,9 +50,9 @@ loop-less c = omega arith
 
 loop-again : tie.Need-loop-again Inv-loop μ-loop
 loop-again c = let l = loop-before-out (c .before) .loop in let a = start-before-loop (loop-before-out (c .before)) .args in (
-  ap length (c .before .before .keep-word .ensures) ∙ length-sets (l .out) (l .to * 2) (bytesOf (getD (now (a .row)) (l .k) 0 ∷ [])) ∙ l .inv .0,
+  ap length (c .before .before .store-word .ensures) ∙ length-sets (l .out) (l .to * 2) (bytesOf (getD (now (a .row)) (l .k) 0 ∷ [])) ∙ l .inv .0,
   omega arith,
-  ap (λ o. sets o ((l .to + 1) * 2) (bytesOf (slice (l .k + 1) (a .upto .0) (now (a .row))))) (c .before .before .keep-word .ensures) ∙ sym (word-on (l .out) (l .to) (l .k) (a .upto .0) (now (a .row)) (c .before .before .before .before .before .loop-test .taken) (start-before-loop (loop-before-out (c .before)) .pre .0)) ∙ l .inv .2,
+  ap (λ o. sets o ((l .to + 1) * 2) (bytesOf (slice (l .k + 1) (a .upto .0) (now (a .row))))) (c .before .before .store-word .ensures) ∙ sym (word-on (l .out) (l .to) (l .k) (a .upto .0) (now (a .row)) (c .before .before .before .before .before .loop-test .taken) (start-before-loop (loop-before-out (c .before)) .pre .0)) ∙ l .inv .2,
 )
 
 same-length : tie.Need-same-length Inv-loop μ-loop
@@ -61,17 +61,17 @@ same-length c = c .before .loop .inv .0
 returns-2 : tie.Need-returns-2 Inv-loop μ-loop
 returns-2 c = let l = c .before .loop in let a = start-before-loop (c .before) .args in sym (words-done (l .out) (l .to * 2) (l .k) (a .upto .0) (now (a .row)) (c .loop-test .left)) ∙ l .inv .2
 
-pub keep-words-spec : {M : Type 1} → statement M
-keep-words-spec =
+pub store-words-spec : {M : Type 1} → statement M
+store-words-spec =
     tie.close
     (tie.spec
     Inv-loop
     μ-loop
     returns
     loop-holds
-    mul-keep-word
-    shared-slice-read-keep-word
-    keep-word-requires
+    mul-store-word
+    shared-slice-read-store-word
+    store-word-requires
     add-k
     add-to
     loop-less

@@ -4,10 +4,10 @@ use Prim.Native.Nat.{_-_}
 use native.Mathlib.Omega.{arith}
 use lib.ListN.{length}
 use lib.Seq.{length-take-le}
-use Rattle.read_store.proofs.Keeping.{sets-out, sets-cut}
+use Rattle.read_store.proofs.Storing.{sets-out, sets-cut}
 use borrow.Author.Needs.{needs}
-use Rattle.read_store.proofs.keep_bytes.Statement.{statement}
-use Rattle.read_store.proofs.keep_bytes.Tie as tie
+use Rattle.read_store.proofs.store_bytes.Statement.{statement}
+use Rattle.read_store.proofs.store_bytes.Tie as tie
 
 -- back from one place to another
 abbrev start-before-then2 : tie.Then2 → tie.Start
@@ -40,8 +40,8 @@ same-length-2 c = search needs
 returns-3 : tie.Need-returns-3
 returns-3 c = search needs
 
-pub keep-bytes-spec : {M : Type 1} → statement M
-keep-bytes-spec =
+pub store-bytes-spec : {M : Type 1} → statement M
+store-bytes-spec =
     tie.close
     (tie.spec
     returns

@@ -3,9 +3,9 @@ use native.Mathlib.Omega.{arith}
 use borrow.Author.Needs.{needs}
 use lib.ListN.{length, length-set, replicate}
 use lib.Seq.{sets}
-use Rattle.read_store.proofs.Keeping.{sets-out, fill-on}
-use Rattle.read_store.proofs.keep_filling.Statement.{statement}
-use Rattle.read_store.proofs.keep_filling.Tie as tie
+use Rattle.read_store.proofs.Storing.{sets-out, fill-on}
+use Rattle.read_store.proofs.store_filling.Statement.{statement}
+use Rattle.read_store.proofs.store_filling.Tie as tie
 
 abbrev Inv-loop : tie.InvT-loop
 Inv-loop b out₀ to₀ left₀ out to left = (length out ≡ length out₀) × (sets out to (replicate left b) ≡ sets out₀ to₀ (replicate left₀ b))
@@ -43,8 +43,8 @@ same-length-2 c = c .before .loop .inv .0
 returns-2 : tie.Need-returns-2 Inv-loop μ-loop
 returns-2 c = let l = c .before .loop in let e : 0 ≡ l .left = omega arith in ap (λ n. sets (l .out) (l .to) (replicate n (c .before .before .args .b))) e ∙ l .inv .1
 
-pub keep-filling-spec : {M : Type 1} → statement M
-keep-filling-spec =
+pub store-filling-spec : {M : Type 1} → statement M
+store-filling-spec =
     tie.close
     (tie.spec
     Inv-loop

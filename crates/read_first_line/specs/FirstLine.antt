@@ -27,11 +27,11 @@ pub record Read : Type 0 where
 abbrev pub gives : List ℕ → List Shape → Verdict Read
 gives ws rest = passed (record { words = ws; rest = rest })
 
--- "Catalogue and Header give 24, then 28": `so` record words stand before, `head` has the fields before those that must be zero, and `kind` is the binary kind
+-- "Catalogue and Header give 24, then 28": `held` record words stand before, `head` has the fields before those that must be zero, and `kind` is the binary kind
 unfoldable pub cardsLine : ℕ → ℕ → ℕ → List ℕ → Verdict Read
-cardsLine num so kind head =
+cardsLine num held kind head =
     if ltb (word head 1) 1 || ltb 199 (word head 1) then refused (answer 24 num 1 0)
-    else if ltb 7998 (so + wordsOfCards (word head 1)) then refused (answer 28 num 1 0)
+    else if ltb 7998 (held + wordsOfCards (word head 1)) then refused (answer 28 num 1 0)
     else gives (wordsOfCards (word head 1) ∷ (kind ∷ drop 2 head) ++ replicate (40 - length head) 0) (replicate (word head 1 - 1) card)
 
 -- row 27: "Data counts out of range: line, first column of the first such field"
@@ -45,15 +45,15 @@ countsIn num r =
 
 -- "Data gives 28, then 24"
 unfoldable pub planLine : ℕ → ℕ → List ℕ → Verdict Read
-planLine num so head =
+planLine num held head =
     let needed = wordsNeeded (word head 13) (word head 14) (word head 15) (word head 16) in
-    if ltb 7998 (so + needed) then refused (answer 28 num 1 0)
+    if ltb 7998 (held + needed) then refused (answer 28 num 1 0)
     else if not (eqb (word head 1) (linesNeeded (word head 13) (word head 14) (word head 15) (word head 16))) then refused (answer 24 num 1 0)
     else gives (needed ∷ (1002 ∷ drop 2 head)) (map fields (drop 1 (dataPlan head)))
 
 -- "the further fields its kind always has": a Catalogue's 13 to 20 are blank or 0
 unfoldable pub catalogueLine : ℕ → ℕ → Line → List ℕ → Verdict Read
-catalogueLine num so l head = onward (zeros num l 12 8) (λ _. cardsLine num so 2001 head)
+catalogueLine num held l head = onward (zeros num l 12 8) (λ _. cardsLine num held 2001 head)
 
 -- a Header's 13 to 15 are free, and its 16 to 20 blank or 0
 unfoldable pub headerFields : ℕ → Line → List ℕ → Verdict (List ℕ)
@@ -61,7 +61,7 @@ headerFields num l head = onward (numbers num l 12 3) (λ more. onward (zeros nu
 
 -- a Header, by 22 or 26, then 24 and 28
 unfoldable pub headerLine : ℕ → ℕ → Line → List ℕ → Verdict Read
-headerLine num so l head = onward (headerFields num l head) (λ r. cardsLine num so 3002 r)
+headerLine num held l head = onward (headerFields num l head) (λ r. cardsLine num held 3002 r)
 
 -- "Data: 13 to 16", then 27
 unfoldable pub countFields : ℕ → Line → List ℕ → Verdict (List ℕ)
@@ -75,17 +75,17 @@ prologueFields num l r =
 
 -- "Data: 27, fields 17 on, then blank columns by 26. Data gives 28, then 24"
 unfoldable pub dataLine : ℕ → ℕ → Line → List ℕ → Verdict Read
-dataLine num so l head =
-    onward (countFields num l head) (λ r. onward (prologueFields num l r) (λ first. planLine num so first))
+dataLine num held l head =
+    onward (countFields num l head) (λ r. onward (prologueFields num l r) (λ first. planLine num held first))
 
 -- row 23: the value of field 2 is none of 2101, 3101, 1101
 unfoldable pub kindLine : ℕ → ℕ → Line → List ℕ → Verdict Read
-kindLine num so l head =
-    if eqb (word head 2) 2101 then catalogueLine num so l head
-    else if eqb (word head 2) 3101 then headerLine num so l head
-    else if eqb (word head 2) 1101 then dataLine num so l head
+kindLine num held l head =
+    if eqb (word head 2) 2101 then catalogueLine num held l head
+    else if eqb (word head 2) 3101 then headerLine num held l head
+    else if eqb (word head 2) 1101 then dataLine num held l head
     else refused (answer 23 num 7 0)
 
--- after 20, which `lineStep` tests: "fields 1 to 12; 23; the further fields its kind always has"
+-- after 20, which `readLine` tests: "fields 1 to 12; 23; the further fields its kind always has"
 unfoldable pub firstLine : ℕ → ℕ → Line → Verdict Read
-firstLine num so l = onward (numbers num l 0 12) (λ head. kindLine num so l head)
+firstLine num held l = onward (numbers num l 0 12) (λ head. kindLine num held l head)
