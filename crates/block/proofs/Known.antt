@@ -1,13 +1,13 @@
 -- The numbers of a block's answer: listed, and with room in the packing.
 use mathlib.Core.Path.{_≡_}
-use mathlib.Core.Bool.{Bool, true, false, _||_, not}
+use mathlib.Core.Bool.{Bool, true, false, not}
 use mathlib.Core.List.{List, [], _∷_}
 use Prim.Native.Nat.{ℕ, zero, suc, _+_, _-_, _^_, _≤_, _<_}
 use native.Mathlib.Omega.{arith}
-use borrow.Author.Tests.{leb-true}
+use borrow.Author.Tests.{ltb-true}
 use lib.Bits.{bitXor, xor-lt}
 use lib.Count.{ones, ones-le}
-use lib.Dec.{leb, ltb, eqb}
+use lib.Dec.{ltb, eqb}
 use lib.ListN.{length, take}
 use lib.Seq.{length-slice}
 use Rattle.units.specs.Choice.{if_then_else_}
@@ -15,11 +15,14 @@ use Rattle.units.specs.declared.Answer.{Answer}
 use Rattle.units.specs.Answers.{answer, Verdict, passed, refused, onward}
 use Rattle.units.proofs.Told.{Told, Known}
 use Rattle.units.proofs.Choosing.{by-test, both-ways}
-use Rattle.words.specs.Words.{wordsOf, word, Below}
+use Rattle.words.specs.Words.{wordsOf, word, words, Below}
 use Rattle.words.proofs.Laws.{words-below, getD-below}
 use Rattle.words.proofs.Lists.{all-take, all-drop}
 use Rattle.words.proofs.Xor.{fold-below}
-use Rattle.record.specs.Judging.{wrongTotal, underLeast, firstNotZero, firstNotCard, judgeCards, judgeCounts, judgeData, judgeRecord, wordsNeeded}
+use Rattle.words.specs.Scans.{passing, someFails, isZero}
+use Rattle.record.specs.Counts.{countsOf, wordsNeeded, inRange}
+use Rattle.record.specs.Judging.{cardWord, wrongTotal, wrongDataTotal, judgeContent, judgeCards, judgeCounts, judgeData, judgeRecord}
+use Rattle.record.proofs.Passed.{total-right}
 use Rattle.block.specs.Cases.{BlockRow}
 use Rattle.block.specs.Judging.{wrongSize, inner, checksumOf, walk, judged}
 use Rattle.block.proofs.Size.{size-right}
@@ -39,29 +42,29 @@ row t r v h k = by-test KnownBlock t (refused r) v h k
 
 module _ (n : ℕ) (hn : n < 2 ^ 16) (rest : List ℕ) (below : word rest 1 < 2 ^ 16) where
   cards-known : (z : ℕ) → 1 ≤ z → z ≤ 41 → KnownBlock (judgeCards n z rest)
-  unfolding judgeCards
+  unfolding judgeCards judgeContent
   cards-known z low high =
+      let front = words rest z 40 in
+      let cards = words rest 41 (word rest 1) in
       row (wrongTotal (word rest 1) (length rest)) (answer 6 n 1 0) _ (λ _. told 6 n 1 0 (omega arith) hn (omega arith) (omega arith))
-      (λ right. row (leb (firstNotZero z rest) 40) (answer 7 n (firstNotZero z rest) 0) _
-      (λ t. told 7 n (firstNotZero z rest) 0 (omega arith) hn (omega (arith, leb-true (firstNotZero z rest) 40 t)) (omega arith))
-      (λ _. row (leb (firstNotCard (word rest 1) rest) (word rest 1)) (answer 8 n (firstNotCard (word rest 1) rest) 0) _
-      (λ t. told 8 n (firstNotCard (word rest 1) rest) 0 (omega arith) hn (omega (arith, leb-true (firstNotCard (word rest 1) rest) (word rest 1) t)) (omega arith))
+      (λ w. let right = total-right (word rest 1) (length rest) w in
+      row (someFails isZero front) (answer 7 n (z + passing isZero front) 0) _
+      (λ t. told 7 n (z + passing isZero front) 0 (omega arith) hn
+      (omega (arith, ltb-true (passing isZero front) (length front) t, length-slice (z - 1) 40 rest (omega arith))) (omega arith))
+      (λ _. row (someFails cardWord cards) (answer 8 n (41 + passing cardWord cards) 0) _
+      (λ t. told 8 n (41 + passing cardWord cards) 0 (omega arith) hn
+      (omega (arith, ltb-true (passing cardWord cards) (length cards) t, length-slice 40 (word rest 1) rest (right .room))) (omega arith))
       (λ _. below)))
-
-  -- a row 9 at this word
-  nine : (w : ℕ) → w ≤ 16 → Told BlockRow (answer 9 n w 0)
-  nine w h = told 9 n w 0 (omega arith) hn (omega arith) (omega arith)
 
   data-known : KnownBlock (judgeData n rest)
   unfolding judgeData judgeCounts
   data-known =
-      row (ltb (word rest 1) 16 || ltb (length rest) (word rest 1)) (answer 6 n 1 0) _ (λ _. told 6 n 1 0 (omega arith) hn (omega arith) (omega arith))
-      (λ _. row (underLeast 16 (word rest 13)) (answer 9 n 13 0) _ (λ _. nine 13 (omega arith))
-      (λ _. row (underLeast 0 (word rest 14)) (answer 9 n 14 0) _ (λ _. nine 14 (omega arith))
-      (λ _. row (underLeast 0 (word rest 15)) (answer 9 n 15 0) _ (λ _. nine 15 (omega arith))
-      (λ _. row (underLeast 0 (word rest 16)) (answer 9 n 16 0) _ (λ _. nine 16 (omega arith))
-      (λ _. row (not (eqb (word rest 1) (wordsNeeded (word rest 13) (word rest 14) (word rest 15) (word rest 16)))) (answer 9 n 1 0) _ (λ _. nine 1 (omega arith))
-      (λ _. below))))))
+      let c = countsOf rest in
+      row (wrongDataTotal (word rest 1) (length rest)) (answer 6 n 1 0) _ (λ _. told 6 n 1 0 (omega arith) hn (omega arith) (omega arith))
+      (λ _. row (ltb (inRange c) 4) (answer 9 n (13 + inRange c) 0) _
+      (λ t. told 9 n (13 + inRange c) 0 (omega arith) hn (omega (arith, ltb-true (inRange c) 4 t)) (omega arith))
+      (λ _. row (not (eqb (word rest 1) (wordsNeeded c))) (answer 9 n 1 0) _ (λ _. told 9 n 1 0 (omega arith) hn (omega arith) (omega arith))
+      (λ _. below)))
 
   record-known : KnownBlock (judgeRecord n rest)
   unfolding judgeRecord

@@ -2,7 +2,8 @@
 use mathlib.Core.Path.{refl}
 use lib.Count.{ones, onesIn}
 use Rattle.words.specs.Words.{wordsOf, bytesOf, xorAll, joined, framed}
-use Rattle.record.specs.Judging.{wrongTotal, underLeast, firstNotZero, firstNotCard, judgeCards, judgeCounts, judgeData, judgeRecord}
+use Rattle.record.specs.Counts.{underLeast, inRange}
+use Rattle.record.specs.Judging.{wrongTotal, judgeContent, judgeCards, judgeCounts, judgeData, judgeRecord}
 use Rattle.words.specs.Scans.{passing, wordWithin}
 use Rattle.block.specs.Judging.{wrongSize, walk, judged}
 use Rattle.record.specs.Lines.{lineCount}
@@ -29,7 +30,7 @@ use Rattle.amending.specs.Amending.{amendable, undoable, onBoth}
 use Rattle.demands.specs.Examples.{blockK, blockLeast, paperRows, PaperRows, prefixRows, PrefixRows, listingRows, ListingRows, readRows, ReadRows, writtenRows, WrittenRows}
 
 pub paper-rows : PaperRows
-unfolding paperRows blockK blockLeast judged wrongSize walk judgeRecord judgeCards judgeData judgeCounts wrongTotal underLeast firstNotZero firstNotCard passing wordWithin wordsOf bytesOf xorAll ones onesIn recordsOf cut toLines written textOf ended linesOf laid plan part times fieldsOf fieldOf decimal lineCount framed joined sheetOf sheetWith entriesOf entries opened broken zeros isValue noRecord withValue stands amendable undoable onBoth number readField columns bytesFrom
+unfolding paperRows blockK blockLeast judged wrongSize walk judgeRecord judgeCards judgeContent judgeData judgeCounts inRange wrongTotal underLeast passing wordWithin wordsOf bytesOf xorAll ones onesIn recordsOf cut toLines written textOf ended linesOf laid plan part times fieldsOf fieldOf decimal lineCount framed joined sheetOf sheetWith entriesOf entries opened broken zeros isValue noRecord withValue stands amendable undoable onBoth number readField columns bytesFrom
 paper-rows = refl
 
 pub prefix-rows : PrefixRows
@@ -37,7 +38,7 @@ unfolding prefixRows table beside
 prefix-rows = refl
 
 pub listing-rows : ListingRows
-unfolding listingRows blockK wordsOf bytesOf xorAll underLeast judgeCounts judgeData judgeRecord wrongSize walk judged cut recordsOf lineCount beside table bytesFrom behind lineOf decimal decimalOf signedOf rowOf rowsOf refusalLine listingOf
+unfolding listingRows blockK wordsOf bytesOf xorAll underLeast judgeCounts judgeData judgeRecord wrongSize walk judged cut recordsOf lineCount beside table bytesFrom behind lineOf decimal decimalOf signedOf rowOf rowsOf refusalLine listingOf inRange
 listing-rows = refl
 
 pub read-rows : ReadRows

@@ -5,18 +5,21 @@ use mathlib.Core.List.{List, [], _∷_, _++_, map}
 use Prim.Native.Nat.{ℕ, suc, _+_, _-_, _*_, _≤_, _<_, min}
 use native.Mathlib.Omega.{arith}
 use borrow.Author.Tests.{le-ltb, eq-eqb}
-use lib.Dec.{eqb}
+use lib.Dec.{ltb, eqb}
 use lib.ListN.{length, getD, take, drop, replicate, length-take, length-drop, take-append-drop}
 use lib.Seq.{take-all, take-add, take-take, length-take-le, getD-take}
-use Rattle.units.specs.Answers.{passed}
+use Rattle.units.specs.Choice.{if_then_else_}
+use Rattle.units.specs.Answers.{answer, passed, refused, onward}
+use Rattle.read_columns.specs.Columns.{columnOf}
 use Rattle.words.specs.Words.{word, All}
-use Rattle.record.specs.Lines.{linesNeeded, lineCount}
+use Rattle.record.specs.Counts.{countsOf, wordsNeeded, linesNeeded, inRange}
+use Rattle.record.specs.Lines.{lineCount}
 use Rattle.record.specs.Rules.{CardsOk, DataOk, KindOk, catalogue, header, dataRecord, RecordOk}
-use Rattle.record.proofs.Passed.{least-at}
-use Rattle.line_plan.specs.Plan.{dataPlan, kindShown}
+use Rattle.record.proofs.FourCounts.{ok-range}
+use Rattle.line_plan.specs.Plan.{plan, dataPlan, kindShown}
 use Rattle.units.specs.Units.{Line}
 use Rattle.write_lines.proofs.Sizes.{is-cards, data-count}
-use Rattle.read_first_line.specs.FirstLine.{card, fields, gives, cardsLine, countsIn, planLine, catalogueLine, headerFields, headerLine, countFields, prologueFields, dataLine, kindLine, firstLine}
+use Rattle.read_first_line.specs.FirstLine.{card, fields, gives, cardsLine, countsIn, dataRoom, planLine, catalogueLine, headerFields, headerLine, countFields, prologueFields, dataLine, kindLine, firstLine}
 use Rattle.read_line.specs.Lines.{inState}
 use Rattle.read_text.specs.Spelled.{Blanks, SpellsAll, CardsSpelled}
 use Rattle.demands.proofs.Back.{blank-back, first-line, numbers-back, zeros-back}
@@ -123,7 +126,7 @@ module _ (num held a b : ℕ) (ws : List ℕ) where
       front = count ∷ (1101 ∷ take q ws)
 
       long : 14 ≤ q
-      long = omega (arith, d .lprol .least-is)
+      long = omega (arith, d .counts .lprol .least-is)
 
       room : q ≤ length ws
       room = omega (arith, d .sum)
@@ -132,19 +135,23 @@ module _ (num held a b : ℕ) (ws : List ℕ) where
       at : (m i : ℕ) → i < m → getD (take m ws) i 0 ≡ getD ws i 0
       at m i k = getD-take m ws i 0 k
 
+      -- so do the counts
+      counts-at : (m : ℕ) → 14 ≤ m → countsOf (count ∷ (1101 ∷ take m ws)) ≡ countsOf it
+      counts-at m k = rw (at m 10 (omega arith), at m 11 (omega arith), at m 12 (omega arith), at m 13 (omega arith))
+
       counts-in : countsIn num (count ∷ (1101 ∷ take 14 ws)) ≡ passed (count ∷ (1101 ∷ take 14 ws))
       unfolding countsIn
       counts-in =
-          rw (at 14 10 (omega arith), at 14 11 (omega arith), at 14 12 (omega arith), at 14 13 (omega arith))
-          (simp (least-at 16 (word it 13) (d .lprol), least-at 0 (word it 14) (d .jpar), least-at 0 (word it 15) (d .mpar), least-at 0 (word it 16) (d .nrow)))
+          ap (λ c. if ltb (inRange c) 4 then refused (answer 27 num (columnOf (12 + inRange c)) 0) else passed (count ∷ (1101 ∷ take 14 ws))) (counts-at 14 (omega arith))
+          ∙ simp (ok-range (countsOf it) (d .counts))
 
       plan-line : planLine num held front ≡ gives (take (suc (suc q)) it) (map fields (drop 1 (dataPlan it)))
-      unfolding planLine
+      unfolding planLine dataRoom
       plan-line =
-          let g = long in
           let n = data-count it (ap (λ k. eqb k 1002) kind) in
-          rw (at q 10 (omega arith), at q 11 (omega arith), at q 12 (omega arith), at q 13 (omega arith), ← d .sum)
-          (simp (le-ltb 7998 (held + length it) fits, eq-eqb count (linesNeeded (word it 13) (word it 14) (word it 15) (word it 16)) n)
+          ap (λ c. onward (dataRoom num held count c) (λ _. gives (wordsNeeded c ∷ (1002 ∷ take q ws)) (map fields (drop 1 (plan c))))) (counts-at q long)
+          ∙ rw (← d .sum)
+          (simp (le-ltb 7998 (held + length it) fits, eq-eqb count (linesNeeded (countsOf it)) n)
           (ap₂ (λ (x y : ℕ). gives (x ∷ (y ∷ take q ws)) (map fields (drop 1 (dataPlan it)))) (sym (h .total)) (sym kind)))
 
       -- the fields behind the counts

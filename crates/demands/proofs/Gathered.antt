@@ -1,5 +1,5 @@
 -- A record whose lines are all read is good, and its lines spell it.
-use mathlib.Core.Path.{_≡_, refl, sym, ap, ap₂, _∙_}
+use mathlib.Core.Path.{_≡_, refl, sym, ap, ap₂, subst, _∙_}
 use mathlib.Core.List.{List, [], _∷_, _++_, append-assoc, map}
 use Prim.Native.Nat.{ℕ, zero, suc, _+_, _-_, _*_, _≤_, _<_, min}
 use native.Mathlib.Omega.{arith}
@@ -7,11 +7,11 @@ use lib.ListN.{length, getD, drop, replicate, length-append, length-drop, length
 use lib.Seq.{take-length, take-at, drop-at, getD-drop}
 use Rattle.words.specs.Words.{word, wordsOf, All, Below}
 use Rattle.words.proofs.Lists.{all-append, all-drop, all-replicate, all-map}
-use Rattle.record.specs.Judging.{wordsNeeded}
+use Rattle.record.specs.Counts.{countsOf, wordsNeeded, linesNeeded}
 use Rattle.record.specs.Lines.{lineCount}
-use Rattle.record.specs.Rules.{CardWord, CardsOk, DataOk, KindOk, catalogue, header, dataRecord, RecordOk}
+use Rattle.record.specs.Rules.{CardWord, CardsOk, CountsOk, DataOk, KindOk, catalogue, header, dataRecord, RecordOk}
 use Rattle.field.specs.Reading.{columns}
-use Rattle.line_plan.specs.Plan.{dataPlan, kindShown, shownWords}
+use Rattle.line_plan.specs.Plan.{plan, dataPlan, kindShown, shownWords}
 use Rattle.units.specs.Units.{Line}
 use Rattle.write_lines.proofs.Sizes.{is-cards, data-count}
 use Rattle.read_first_line.specs.FirstLine.{Shape, card, fields, Read}
@@ -132,7 +132,7 @@ module _ (held : ℕ) (l : Line) (s : Read) (o : Opens held l s) (now : List Lin
     first = f .head
 
     abbrev needed : ℕ
-    needed = wordsNeeded (word first 13) (word first 14) (word first 15) (word first 16)
+    needed = wordsNeeded (countsOf first)
 
     abbrev data-it : List ℕ
     data-it = needed ∷ (1002 ∷ drop 2 first ++ body)
@@ -144,23 +144,20 @@ module _ (held : ℕ) (l : Line) (s : Read) (o : Opens held l s) (now : List Lin
     same : (j : ℕ) → j < 14 → getD (drop 2 first ++ body) j 0 ≡ getD first (2 + j) 0
     same j h = List·getD-append (drop 2 first) body 0 j (omega (arith, long, length-drop 2 first)) ∙ getD-drop 2 first j 0
 
+    -- so do its counts
+    same-counts : countsOf data-it ≡ countsOf first
+    same-counts = rw (same 10 (omega arith), same 11 (omega arith), same 12 (omega arith), same 13 (omega arith))
+
     data-ok : DataOk data-it
     data-ok =
         let c = counted (needed ∷ (1002 ∷ drop 2 first)) (f .words) in
-        record {
-          lprol = rw (same 10 (omega arith)) (f .is .counts .lprol);
-          jpar = rw (same 11 (omega arith)) (f .is .counts .jpar);
-          mpar = rw (same 12 (omega arith)) (f .is .counts .mpar);
-          nrow = rw (same 13 (omega arith)) (f .is .counts .nrow);
-          sum = rw (same 10 (omega arith), same 11 (omega arith), same 12 (omega arith), same 13 (omega arith)) (sym c);
-        }
+        record { counts = subst (λ x. CountsOk x) (sym same-counts) (f .is .counts); sum = sym c ∙ ap wordsNeeded (sym same-counts) }
 
     data-spelled : LinesSpell (map fields (dataPlan data-it)) (l ∷ now) (shownWords data-it)
     data-spelled =
-        let turn = plan-turn (word first 13) (word first 14) (word first 15) (word first 16) (omega (arith, f .is .counts .lprol .least-is)) in
-        let count : lineCount data-it ≡ word first 1 =
-        data-count data-it refl ∙ rw (same 10 (omega arith), same 11 (omega arith), same 12 (omega arith), same 13 (omega arith)) (sym (f .lines)) in
-        rw (same 10 (omega arith), same 11 (omega arith), same 12 (omega arith), same 13 (omega arith), turn, shown-is needed 1002 first body (omega (arith, long)) (f .is .says) count)
+        let turn : plan (countsOf data-it) ≡ min (word first 13) 20 ∷ drop 1 (dataPlan first) = ap plan same-counts ∙ plan-turn (countsOf first) (omega (arith, f .is .counts .lprol .least-is)) in
+        let count : lineCount data-it ≡ word first 1 = data-count data-it refl ∙ ap linesNeeded same-counts ∙ sym (f .lines) in
+        rw (turn, shown-is needed 1002 first body (omega (arith, long)) (f .is .says) count)
         (a-line {x = fields (min (word first 13) 20)} first (f .is .read .count, f .is .read .spells, f .is .blank) (rw (f .rest) at others))
 
     data-done : Done (s .words ++ body) (l ∷ now)

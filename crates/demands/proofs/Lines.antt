@@ -14,6 +14,8 @@ use Rattle.words.specs.Words.{word, joined, All, Below}
 use Rattle.words.proofs.Lists.{all-append, all-replicate}
 use Rattle.words.proofs.Laws.{length-bytesOf}
 use Rattle.words.proofs.Stores.{sets-left, sets-right}
+use Rattle.record.specs.declared.Counts.{Counts}
+use Rattle.record.specs.Counts.{countsOf}
 use Rattle.record.specs.Lines.{lineCount}
 use Rattle.record.specs.Rules.{KindOk, catalogue, header, dataRecord, RecordOk}
 use Rattle.block.specs.Rules.{blockOf, IsBlock}
@@ -58,11 +60,10 @@ unfolding times
 times-narrow zero n = tt
 times-narrow (suc k) n = all-append Narrow (part n) (times k (part n)) (part-narrow n) (times-narrow k n)
 
-plan-narrow : (lprol jpar mpar nrow : ℕ) → All Narrow (plan lprol jpar mpar nrow)
+plan-narrow : (c : Counts) → All Narrow (plan c)
 unfolding plan
-plan-narrow lprol jpar mpar nrow =
-    all-append Narrow (part lprol) _ (part-narrow lprol)
-    (all-append Narrow (part jpar) _ (part-narrow jpar) (all-append Narrow (part jpar) _ (part-narrow jpar) (times-narrow (nrow + 1) mpar)))
+plan-narrow c =
+    all-append Narrow (part (c .lprol)) _ (part-narrow (c .lprol)) (all-append Narrow (times 2 (part (c .jpar))) _ (times-narrow 2 (c .jpar)) (times-narrow (c .nrow + 1) (c .mpar)))
 
 fields-width : (n : ℕ) (ws : List ℕ) → n ≤ 20 → length (fieldsOf (take n ws)) ≤ 120
 fields-width n ws h = omega (arith, length-fieldsOf (take n ws), length-take n ws)
@@ -86,7 +87,7 @@ line-width r h = by (h .kind)
     by : KindOk r → All (λ l. length l ≤ 120) (linesOf r)
     by (catalogue e c) = cards (ap (λ k. eqb k 1002) e)
     by (header e c) = cards (ap (λ k. eqb k 1002) e)
-    by (dataRecord e d) = rw (data-lines r (ap (λ k. eqb k 1002) e)) (laid-width (dataPlan r) (shownWords r) (plan-narrow (word r 13) (word r 14) (word r 15) (word r 16)))
+    by (dataRecord e d) = rw (data-lines r (ap (λ k. eqb k 1002) e)) (laid-width (dataPlan r) (shownWords r) (plan-narrow (countsOf r)))
 
 -- ---- the largest text
 
@@ -114,10 +115,7 @@ values-ok vs h b =
     record {
       total = sym l;
       kind = dataRecord refl (record {
-        lprol = record { least-is = omega arith; sign = omega arith };
-        jpar = record { least-is = omega arith; sign = omega arith };
-        mpar = record { least-is = omega arith; sign = omega arith };
-        nrow = record { least-is = omega arith; sign = omega arith };
+        counts = record { lprol = omega arith; jpar = omega arith; mpar = omega arith; nrow = omega arith };
         sum = l;
       });
       sized = all-append Word (7998 ∷ 1002 ∷ replicate 10 0) (16 ∷ 0 ∷ 1 ∷ 7981 ∷ vs) (omega arith, (omega arith, all-replicate Word 10 0 (omega arith))) (omega arith, (omega arith, (omega arith, (omega arith, b))));
@@ -243,7 +241,7 @@ module _ (r : List ℕ) (h : RecordOk r) (kind : word r 2 ≡ 1002) (j v : ℕ) 
   record-set : ended (linesOf (set r j v)) ≡ sets (ended (linesOf r)) (columnsBefore r j) (fieldOf v)
   record-set =
       let d = is-data r h kind in
-      let f = fieldsIn-plan (word r 13) (word r 14) (word r 15) (word r 16) in
+      let f = fieldsIn-plan (countsOf r) in
       let l : length (head (drop 2 r)) ≡ length r = omega (arith, length-drop 2 r) in
       data-is (set r j v) kind-same
       ∙ ap₂ (λ (ns : List ℕ) (n : ℕ). ended (laid ns (n ∷ (1101 ∷ drop 2 (set r j v))))) plan-same count-same
@@ -259,7 +257,7 @@ module _ (r : List ℕ) (h : RecordOk r) (kind : word r 2 ≡ 1002) (j v : ℕ) 
         arith,
         length-fieldOf v,
         ends-le (dataPlan r) j,
-        length-plan (word r 13) (word r 14) (word r 15) (word r 16),
+        length-plan (countsOf r),
         data-count r e,
         data-size r e,
         sized r h .bytes,

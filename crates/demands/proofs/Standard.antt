@@ -12,6 +12,7 @@ use Rattle.units.specs.Answers.{passed}
 use Rattle.words.specs.Words.{word, bytesOf, joined, All, Below}
 use Rattle.words.proofs.Lists.{all-take, all-drop, all-append, all-getD, all-map}
 use Rattle.words.proofs.Laws.{length-bytesOf, words-bytes, getD-below}
+use Rattle.record.specs.Counts.{countsOf}
 use Rattle.record.specs.Lines.{lineCount}
 use Rattle.record.specs.Rules.{CardWord, CardsOk, KindOk, catalogue, header, dataRecord, RecordOk}
 use Rattle.field.specs.declared.Number.the-variants.{Word}
@@ -197,8 +198,8 @@ module _ (r : List ℕ) (h : RecordOk r) where
       by (catalogue e c) = rw (its-lines (λ f. omega arith)) (as-catalogue e (cards-spelled (λ f. omega arith) 13 (omega arith) (omega arith) c))
       by (header e c) = rw (its-lines (λ f. omega arith)) (as-header e (cards-spelled (λ f. omega arith) 16 (omega arith) (omega arith) c))
       by (dataRecord e d) =
-          let all = fieldsIn-plan (word r 13) (word r 14) (word r 15) (word r 16) in
-          rw (data-lines r (ap (λ k. eqb k 1002) e)) (as-data e (laid-spell (dataPlan r) (shownWords r) (omega (arith, d .sum, d .lprol .least-is, length-drop 2 r)) shown-below))
+          let all = fieldsIn-plan (countsOf r) in
+          rw (data-lines r (ap (λ k. eqb k 1002) e)) (as-data e (laid-spell (dataPlan r) (shownWords r) (omega (arith, d .sum, d .counts .lprol .least-is, length-drop 2 r)) shown-below))
 
   lines-printed : All (All Printed) (linesOf r)
   lines-printed = by (h .kind)

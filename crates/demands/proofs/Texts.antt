@@ -10,6 +10,7 @@ use lib.Seq.{take-at, drop-at}
 use Rattle.units.specs.Answers.{passed}
 use Rattle.words.specs.Words.{word, joined, All}
 use Rattle.words.proofs.Lists.{all-parts}
+use Rattle.record.specs.Counts.{countsOf}
 use Rattle.record.specs.Lines.{lineCount}
 use Rattle.record.specs.Rules.{RecordOk}
 use Rattle.block.proofs.Exact.{ok-long}
@@ -75,7 +76,7 @@ module _ (num held a b : ℕ) (ws : List ℕ) (ls : List Line) where
 
       data-read : LinesSpell (map fields (dataPlan it)) ms (shownWords it) → ReadBack ms
       data-read s =
-          let turn = plan-turn (word it 13) (word it 14) (word it 15) (word it 16) (omega (arith, is-data it h kind .lprol .least-is)) in
+          let turn = plan-turn (countsOf it) (omega (arith, is-data it h kind .counts .lprol .least-is)) in
           let shows : kindShown b ≡ 1101 = ap (λ k. kindShown k) kind in
           from-first (apart (rw (turn, first, shows) at s))
 
@@ -83,7 +84,7 @@ module _ (num held a b : ℕ) (ws : List ℕ) (ls : List Line) where
     record-read : (ms : List Line) → All Readable ms → RecordSpelled it ms → ReadBack ms
     record-read ms r (as-catalogue {l} {ls = ms'} e s) = goes-on 40 (replicate (lineCount it - 1) card) l ms' r (catalogue-given num held a b ws h fits (λ f. omega arith) l ms' e s) (s .cards)
     record-read ms r (as-header {l} {ls = ms'} e s) = goes-on 40 (replicate (lineCount it - 1) card) l ms' r (header-given num held a b ws h fits (λ f. omega arith) l ms' e s) (s .cards)
-    record-read ms r (as-data e s) = data-read ms r e (min (word it 13) 20 - 2) (omega (arith, is-data it h e .lprol .least-is)) s
+    record-read ms r (as-data e s) = data-read ms r e (min (word it 13) 20 - 2) (omega (arith, is-data it h e .counts .lprol .least-is)) s
 
 record-back : (r : List ℕ) (num held : ℕ) (ms ls : List Line) → RecordOk r → held + length r ≤ 7998 → All Readable ms → RecordSpelled r ms
     → readLines num held [] (ms ++ ls) ≡ ahead r (readLines (num + length ms) (held + length r) [] ls)

@@ -1,19 +1,23 @@
 -- One value of good records amended: what it changes, and what it leaves.
-use mathlib.Core.Path.{_≡_, refl, sym, ap, _∙_}
-use mathlib.Core.Bool.{Bool, true, false}
+use mathlib.Core.Path.{_≡_, refl, sym, ap, subst, _∙_}
+use mathlib.Core.Bool.{Bool, true, false, _&&_}
 use borrow.Author.Tests.{eqb-true, eqb-false}
 use lib.Dec.{eqb}
 use mathlib.Core.List.{List, [], map}
-use Prim.Native.Nat.{ℕ, _-_, _≤_, _<_}
+use Prim.Native.Nat.{ℕ, _+_, _-_, _≤_, _<_}
 use native.Mathlib.Omega.{arith}
 use lib.ListN.{length, getD, set, length-set, length-map, List·getD-map}
 use lib.Seq.{getD-set-same, getD-set-other, set-getD, set-set, map-set-same}
 use Rattle.words.specs.Words.{word, All}
 use Rattle.words.proofs.Lists.{all-at, all-set}
-use Rattle.record.specs.Rules.{dataRecord, RecordOk}
-use Rattle.record.specs.Values.{isValue}
+use Rattle.units.specs.Units.{columnsOfFields, endsOfLines}
+use Rattle.record.specs.Counts.{countsOf, wordsNeeded}
+use Rattle.record.specs.Rules.{CountsOk, dataRecord, RecordOk}
+use Rattle.record.specs.Values.{amongValues, isValue}
+use Rattle.record.proofs.FourCounts.{counts-same}
+use Rattle.line_plan.specs.Plan.{plan}
 use Rattle.record.proofs.Values.{is-data}
-use Rattle.write_lines.specs.Columns.{columnsBefore}
+use Rattle.write_lines.specs.Columns.{endsBefore, columnsBefore}
 use Rattle.sheet.specs.Sheets.{Entry}
 use Rattle.amending.specs.Places.{recordNumber, wordNumber, recordIn, found, withValue}
 use Rattle.amending.proofs.Named.{Named, named-inside, named-value}
@@ -33,6 +37,10 @@ module _ (r : List ℕ) (j v : ℕ) (h : ValueWord r j) where
   same : (i : ℕ) → i < 16 → getD (set r j v) i 0 ≡ getD r i 0
   same i l = getD-set-other r j i v 0 (λ e. omega (arith, h .low))
 
+  -- so do the counts
+  same-counts : countsOf (set r j v) ≡ countsOf r
+  same-counts = counts-same (set r j v) r (λ i low high. same i high)
+
   -- and the record is good again
   set-ok : v < 65536 → RecordOk (set r j v)
   set-ok fits =
@@ -41,13 +49,7 @@ module _ (r : List ℕ) (j v : ℕ) (h : ValueWord r j) where
         total = same 0 (omega arith) ∙ h .ok .total ∙ sym (length-set r j v);
         kind =
             dataRecord (same 1 (omega arith) ∙ h .kind)
-            (record {
-              lprol = rw (same 12 (omega arith)) (d .lprol);
-              jpar = rw (same 13 (omega arith)) (d .jpar);
-              mpar = rw (same 14 (omega arith)) (d .mpar);
-              nrow = rw (same 15 (omega arith)) (d .nrow);
-              sum = rw (length-set r j v, same 12 (omega arith), same 13 (omega arith), same 14 (omega arith), same 15 (omega arith)) (d .sum);
-            });
+            (record { counts = subst (λ c. CountsOk c) (sym same-counts) (d .counts); sum = length-set r j v ∙ d .sum ∙ ap wordsNeeded (sym same-counts) });
         sized = all-set (λ w. w < 65536) r j v fits (h .ok .sized);
       }
 
@@ -59,11 +61,10 @@ Steady f = (r : List ℕ) (j v : ℕ) → ValueWord r j → f (set r j v) ≡ f 
 
 steady-value : (w : ℕ) → Steady (λ r. isValue r w)
 unfolding isValue
-steady-value w r j v h =
-    rw (same r j v h 1 (omega arith), same r j v h 12 (omega arith), same r j v h 13 (omega arith), same r j v h 14 (omega arith), same r j v h 15 (omega arith))
+steady-value w r j v h = rw (same r j v h 1 (omega arith)) (ap (λ c. eqb (word r 2) 1002 && amongValues c w) (same-counts r j v h))
 
 pub steady-columns : (i : ℕ) → Steady (λ r. columnsBefore r i)
-steady-columns i r j v h = rw (same r j v h 12 (omega arith), same r j v h 13 (omega arith), same r j v h 14 (omega arith), same r j v h 15 (omega arith))
+steady-columns i r j v h = ap (λ c. columnsOfFields i + endsOfLines (endsBefore (plan c) i)) (same-counts r j v h)
 
 pub steady-size : Steady length
 steady-size r j v h = length-set r j v

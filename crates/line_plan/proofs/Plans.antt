@@ -9,8 +9,8 @@ use borrow.Author.Tests.{ltb-true, ltb-false}
 use lib.Dec.{ltb}
 use lib.ListN.{length, replicate, length-append, length-replicate}
 use Rattle.units.specs.Units.{linesOfFields}
-use Rattle.record.specs.Judging.{wordsNeeded}
-use Rattle.record.specs.Lines.{linesNeeded}
+use Rattle.record.specs.declared.Counts.{Counts}
+use Rattle.record.specs.Counts.{wordsNeeded, linesNeeded}
 use Rattle.line_plan.specs.Plan.{shorter, part, times, plan}
 
 -- the first line of a part, and the others
@@ -79,24 +79,28 @@ module _ (count : List ℕ → ℕ) (each : ℕ → ℕ) (none : count [] ≡ 0)
   over-times zero n = omega (arith, none)
   over-times (suc k) n = omega (arith, adds (part n) (times k (part n)), of-part n, over-times k n, suc-mul k (each n))
 
-  over-plan : (lprol jpar mpar nrow : ℕ) → count (plan lprol jpar mpar nrow) ≡ each lprol + 2 * each jpar + each mpar * (nrow + 1)
+  over-plan : (c : Counts) → count (plan c) ≡ each (c .lprol) + 2 * each (c .jpar) + each (c .mpar) * (c .nrow + 1)
   unfolding plan
-  over-plan lprol jpar mpar nrow =
-      let rows = times (nrow + 1) (part mpar) in
+  over-plan c =
+      let singles = times 2 (part (c .jpar)) in
+      let rows = times (c .nrow + 1) (part (c .mpar)) in
       omega (
         arith,
-        adds (part lprol) (part jpar ++ (part jpar ++ rows)),
-        adds (part jpar) (part jpar ++ rows),
-        adds (part jpar) rows,
-        of-part lprol,
-        of-part jpar,
-        over-times (nrow + 1) mpar,
-        mul-comm (nrow + 1) (each mpar),
+        adds (part (c .lprol)) (singles ++ rows),
+        adds singles rows,
+        of-part (c .lprol),
+        over-times 2 (c .jpar),
+        over-times (c .nrow + 1) (c .mpar),
+        mul-comm (c .nrow + 1) (each (c .mpar)),
       )
 
-pub length-plan : (lprol jpar mpar nrow : ℕ) → length (plan lprol jpar mpar nrow) ≡ linesNeeded lprol jpar mpar nrow
+pub fieldsIn-times : (k n : ℕ) → fieldsIn (times k (part n)) ≡ k * n
+unfolding fieldsIn
+fieldsIn-times = over-times fieldsIn (λ n. n) refl fieldsIn-append fieldsIn-part
+
+pub length-plan : (c : Counts) → length (plan c) ≡ linesNeeded c
 length-plan = over-plan length linesOfFields refl length-append length-part
 
-pub fieldsIn-plan : (lprol jpar mpar nrow : ℕ) → fieldsIn (plan lprol jpar mpar nrow) ≡ wordsNeeded lprol jpar mpar nrow
+pub fieldsIn-plan : (c : Counts) → fieldsIn (plan c) ≡ wordsNeeded c
 unfolding fieldsIn
 fieldsIn-plan = over-plan fieldsIn (λ n. n) refl fieldsIn-append fieldsIn-part

@@ -5,6 +5,8 @@ use lib.Dec.{eqb}
 use lib.ListN.{drop, replicate}
 use Rattle.units.specs.Choice.{if_then_else_}
 use Rattle.words.specs.Words.{word}
+use Rattle.record.specs.declared.Counts.{Counts}
+use Rattle.record.specs.Counts.{countsOf}
 use Rattle.record.specs.Lines.{lineCount}
 
 -- a last line of so many fields; "a part with no fields takes no line"
@@ -21,13 +23,17 @@ unfoldable pub times : ℕ → List ℕ → List ℕ
 times zero ns = []
 times (suc k) ns = ns ++ times k ns
 
--- "Data prologue, 1-D codes, 1-D values, 2-D codes and each 2-D row each begin on a new line"
-unfoldable pub plan : ℕ → ℕ → ℕ → ℕ → List ℕ
-plan lprol jpar mpar nrow = part lprol ++ (part jpar ++ (part jpar ++ times (nrow + 1) (part mpar)))
+-- behind the prologue: 1-D codes and 1-D values, two parts of JPAR fields; 2-D codes and the rows, NROW + 1 parts of MPAR fields
+abbrev pub tables : Counts → List ℕ
+tables c = times 2 (part (c .jpar)) ++ times (c .nrow + 1) (part (c .mpar))
 
--- the plan of a Data record, from its words 13 to 16
+-- "Data prologue, 1-D codes, 1-D values, 2-D codes and each 2-D row each begin on a new line"
+unfoldable pub plan : Counts → List ℕ
+plan c = part (c .lprol) ++ tables c
+
+-- the plan of a Data record
 abbrev pub dataPlan : List ℕ → List ℕ
-dataPlan r = plan (word r 13) (word r 14) (word r 15) (word r 16)
+dataPlan r = plan (countsOf r)
 
 -- "Kinds become 2101, 3101, 1101"
 abbrev pub kindShown : ℕ → ℕ

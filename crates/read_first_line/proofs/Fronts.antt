@@ -1,15 +1,17 @@
 -- What is known of a Data record's first fields once they are accepted.
 use mathlib.Core.Path.{_≡_, sym, _∙_}
 use mathlib.Core.List.{List, _++_}
-use Prim.Native.Nat.{ℕ, _-_, _*_, _≤_, _<_, min}
+use Prim.Native.Nat.{ℕ, _+_, _-_, _*_, _≤_, _<_, min}
 use native.Mathlib.Omega.{arith}
+use borrow.Author.Tests.{ltb-false}
+use lib.Dec.{ltb}
 use lib.ListN.{length, getD, take, List·getD-append}
 use lib.Seq.{getD-take, length-take-le}
 use Rattle.units.specs.Answers.{answer, Verdict, passed, refused, onward}
 use Rattle.units.proofs.Verdicts.{never-passed, else-passed}
 use Rattle.words.specs.Words.{word}
-use Rattle.record.specs.Judging.{underLeast}
-use Rattle.record.proofs.Passed.{at-least}
+use Rattle.record.specs.Counts.{countsOf, inRange}
+use Rattle.record.proofs.FourCounts.{range-ok}
 use Rattle.read_columns.specs.Columns.{columnOf, numbers, blankAfter}
 use Rattle.read_first_line.specs.FirstLine.{countsIn, countFields, prologueFields}
 
@@ -17,12 +19,9 @@ use Rattle.read_first_line.specs.FirstLine.{countsIn, countFields, prolo
 in-range : (num : ℕ) (r x : List ℕ) → countsIn num r ≡ passed x → 16 ≤ getD x 12 0
 unfolding countsIn
 in-range num r x e =
-    let a = else-passed (underLeast 16 (word r 13)) (answer 27 num (columnOf 12) 0) _ x e in
-    let b = else-passed (underLeast 0 (word r 14)) (answer 27 num (columnOf 13) 0) _ x (a .1) in
-    let c = else-passed (underLeast 0 (word r 15)) (answer 27 num (columnOf 14) 0) _ x (b .1) in
-    let d = else-passed (underLeast 0 (word r 16)) (answer 27 num (columnOf 15) 0) (passed r) x (c .1) in
+    let a = else-passed (ltb (inRange (countsOf r)) 4) (answer 27 num (columnOf (12 + inRange (countsOf r))) 0) (passed r) x e in
     let same : r ≡ x = cc in
-    rw (sym same) (at-least 16 (word r 13) (a .0) .least-is)
+    rw (sym same) (range-ok (countsOf r) (ltb-false _ _ (a .0)) .lprol .least-is)
 
 pub counted : (num : ℕ) (l head x : List ℕ) → passed x ≡ countFields num l head → 16 ≤ getD x 12 0
 unfolding countFields

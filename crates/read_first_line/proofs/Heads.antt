@@ -1,22 +1,25 @@
 -- A record's first line, over the row that its fields were read into.
-use mathlib.Core.Path.{_≡_, refl, ap, _∙_}
-use mathlib.Core.Bool.{not, _||_}
+use mathlib.Core.Path.{_≡_, refl, sym, ap, _∙_}
+use mathlib.Core.Bool.{_||_}
 use mathlib.Core.List.{List, [], _∷_, _++_, map}
 use Prim.Native.Nat.{ℕ, zero, suc, _+_, _-_, _*_, _≤_, _<_, min}
 use native.Mathlib.Omega.{arith}
+use borrow.Author.Tests.{ltb-false}
 use lib.Dec.{ltb, eqb}
 use lib.ListN.{length, getD, take, drop, replicate, length-append, length-replicate}
 use lib.Seq.{sets, slice, getD-take, length-take-le, length-slice}
 use Rattle.units.specs.Choice.{if_then_else_}
 use Rattle.units.specs.Answers.{answer, passed, refused, onward}
+use Rattle.units.proofs.Verdicts.{else-passed}
+use Rattle.record.specs.declared.Counts.{Counts}
 use Rattle.words.specs.Words.{bytesOf}
 use Rattle.words.proofs.Laws.{bytes-append, length-bytesOf}
 use Rattle.words.proofs.Writing.{sets-append}
-use Rattle.record.specs.Judging.{underLeast, wordsNeeded}
-use Rattle.record.specs.Lines.{linesNeeded}
+use Rattle.record.specs.Counts.{countsOf, wordsNeeded, inRange}
+use Rattle.record.proofs.FourCounts.{counts-first, counts-take}
 use Rattle.line_plan.specs.Plan.{plan}
 use Rattle.read_columns.specs.Columns.{columnOf, numbers, blankAfter}
-use Rattle.read_first_line.specs.FirstLine.{card, fields, gives, cardsLine, countsIn, planLine, prologueFields, catalogueLine, headerLine, dataLine, kindLine}
+use Rattle.read_first_line.specs.FirstLine.{card, fields, gives, cardsLine, countsIn, dataRoom, planLine, prologueFields, catalogueLine, headerLine, dataLine, kindLine}
 use Rattle.read_first_line.specs.State.{put}
 
 -- words that are put one after the other
@@ -59,25 +62,23 @@ module _ (row : List ℕ) (used : ℕ) (h : used ≤ length row) where
   unfolding cardsLine
   cards-is num held kind low = rw (getD-take used row 0 0 low, length-take-le used row h)
 
-  pub plan-is : (num held : ℕ) → 16 ≤ used → let lprol = getD row 12 0 in let jpar = getD row 13 0 in let mpar = getD row 14 0 in let nrow = getD row 15 0 in
-      planLine num held (take used row) ≡
-      (if ltb 7998 (held + wordsNeeded lprol jpar mpar nrow) then refused (answer 28 num 1 0)
-      else if not (eqb (getD row 0 0) (linesNeeded lprol jpar mpar nrow)) then refused (answer 24 num 1 0)
-      else gives (wordsNeeded lprol jpar mpar nrow ∷ (1002 ∷ slice 2 used row)) (map fields (drop 1 (plan lprol jpar mpar nrow))))
+  pub plan-is : (num held : ℕ) → 16 ≤ used → let c = countsOf row in
+      planLine num held (take used row) ≡ onward (dataRoom num held (getD row 0 0) c) (λ _. gives (wordsNeeded c ∷ (1002 ∷ slice 2 used row)) (map fields (drop 1 (plan c))))
   unfolding planLine
   plan-is num held low =
-      rw (getD-take used row 0 0 (omega arith), getD-take used row 12 0 (omega arith), getD-take used row 13 0 (omega arith), getD-take used row 14 0 (omega arith), getD-take used row 15 0 (omega arith))
+      rw (getD-take used row 0 0 (omega arith))
+      (ap (λ c. onward (dataRoom num held (getD row 0 0) c) (λ _. gives (wordsNeeded c ∷ (1002 ∷ slice 2 used row)) (map fields (drop 1 (plan c))))) (counts-take used row low))
 
-pub counts-is : (num : ℕ) (row : List ℕ) →
-    countsIn num (take 16 row) ≡
-    (if underLeast 16 (getD row 12 0) then refused (answer 27 num (columnOf 12) 0)
-    else if underLeast 0 (getD row 13 0) then refused (answer 27 num (columnOf 13) 0)
-    else if underLeast 0 (getD row 14 0) then refused (answer 27 num (columnOf 14) 0)
-    else if underLeast 0 (getD row 15 0) then refused (answer 27 num (columnOf 15) 0)
-    else passed (take 16 row))
+-- where there is room for a Data record, it is small
+pub room-most : (num held lines : ℕ) (c : Counts) → passed tt ≡ dataRoom num held lines c → held + wordsNeeded c ≤ 7998
+unfolding dataRoom
+room-most num held lines c e = ltb-false 7998 (held + wordsNeeded c) (else-passed (ltb 7998 (held + wordsNeeded c)) (answer 28 num 1 0) _ tt (sym e) .0)
+
+pub counts-is : (num : ℕ) (row : List ℕ) → let right = inRange (countsOf row) in
+    countsIn num (take 16 row) ≡ (if ltb right 4 then refused (answer 27 num (columnOf (12 + right)) 0) else passed (take 16 row))
 unfolding countsIn
 counts-is num row =
-    rw (getD-take 16 row 12 0 (omega arith), getD-take 16 row 13 0 (omega arith), getD-take 16 row 14 0 (omega arith), getD-take 16 row 15 0 (omega arith))
+    ap (λ c. if ltb (inRange c) 4 then refused (answer 27 num (columnOf (12 + inRange c)) 0) else passed (take 16 row)) (counts-first row)
 
 pub prologue-is : (num : ℕ) (l row : List ℕ) (used : ℕ) → used ≡ min (getD row 12 0) 20 →
     prologueFields num l (take 16 row) ≡ onward (numbers num l 16 (used - 16)) (λ more. onward (blankAfter num l (6 * used)) (λ _. passed (take 16 row ++ more)))

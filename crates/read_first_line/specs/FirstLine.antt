@@ -8,9 +8,9 @@ use Rattle.units.specs.Choice.{if_then_else_}
 use Rattle.units.specs.Units.{wordsOfCards, columnsOfFields, Line}
 use Rattle.units.specs.Answers.{answer, Verdict, passed, refused, onward}
 use Rattle.words.specs.Words.{word}
-use Rattle.record.specs.Judging.{underLeast, wordsNeeded}
-use Rattle.record.specs.Lines.{linesNeeded}
-use Rattle.line_plan.specs.Plan.{dataPlan}
+use Rattle.record.specs.declared.Counts.{Counts}
+use Rattle.record.specs.Counts.{countsOf, wordsNeeded, linesNeeded, inRange}
+use Rattle.line_plan.specs.Plan.{plan}
 use Rattle.read_columns.specs.Columns.{blankAfter, columnOf, numbers, zeros}
 
 -- a line still to come of a record: a card, or so many number fields
@@ -37,19 +37,21 @@ cardsLine num held kind head =
 -- row 27: "Data counts out of range: line, first column of the first such field"
 unfoldable pub countsIn : ℕ → List ℕ → Verdict (List ℕ)
 countsIn num r =
-    if underLeast 16 (word r 13) then refused (answer 27 num (columnOf 12) 0)
-    else if underLeast 0 (word r 14) then refused (answer 27 num (columnOf 13) 0)
-    else if underLeast 0 (word r 15) then refused (answer 27 num (columnOf 14) 0)
-    else if underLeast 0 (word r 16) then refused (answer 27 num (columnOf 15) 0)
-    else passed r
+    let right = inRange (countsOf r) in
+    if ltb right 4 then refused (answer 27 num (columnOf (12 + right)) 0) else passed r
 
--- "Data gives 28, then 24"
+-- "Data gives 28, then 24": `lines` is the stated line count
+unfoldable pub dataRoom : ℕ → ℕ → ℕ → Counts → Verdict (Unit {0})
+dataRoom num held lines c =
+    if ltb 7998 (held + wordsNeeded c) then refused (answer 28 num 1 0)
+    else if not (eqb lines (linesNeeded c)) then refused (answer 24 num 1 0)
+    else passed tt
+
+-- then a Data record gives the words of its first line, and the lines of its plan behind that are to come
 unfoldable pub planLine : ℕ → ℕ → List ℕ → Verdict Read
 planLine num held head =
-    let needed = wordsNeeded (word head 13) (word head 14) (word head 15) (word head 16) in
-    if ltb 7998 (held + needed) then refused (answer 28 num 1 0)
-    else if not (eqb (word head 1) (linesNeeded (word head 13) (word head 14) (word head 15) (word head 16))) then refused (answer 24 num 1 0)
-    else gives (needed ∷ (1002 ∷ drop 2 head)) (map fields (drop 1 (dataPlan head)))
+    let c = countsOf head in
+    onward (dataRoom num held (word head 1) c) (λ _. gives (wordsNeeded c ∷ (1002 ∷ drop 2 head)) (map fields (drop 1 (plan c))))
 
 -- "the further fields its kind always has": a Catalogue's 13 to 20 are blank or 0
 unfoldable pub catalogueLine : ℕ → ℕ → Line → List ℕ → Verdict Read

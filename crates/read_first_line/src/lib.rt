@@ -1,6 +1,7 @@
 // Reads a record's first line, which says what is to come of the record, and puts its words into a block as far as that has room.
 use read_columns::Checked;
 use read_columns::Flaw;
+use record::Counts;
 use units::Lines;
 use units::Words;
 ghost use mathlib.Core.Path.{_≡_};
@@ -9,9 +10,10 @@ ghost use Prim.Native.Nat.{_-_, _≤_, _<_, _^_, min};
 ghost use lib.ListN.{length, getD, take, drop, replicate};
 ghost use lib.Seq.{slice};
 ghost use Rattle.units.specs.Answers.{onward};
+ghost use Rattle.record.specs.Counts.{countsOf, wordsNeeded};
 ghost use Rattle.line_plan.specs.Plan.{plan};
 ghost use Rattle.read_columns.specs.Cases.{checkedOf};
-ghost use Rattle.read_first_line.specs.FirstLine.{card, fields, countsIn, cardsLine, planLine, headerFields, countFields, prologueFields, catalogueLine, headerLine, dataLine, kindLine, firstLine};
+ghost use Rattle.read_first_line.specs.FirstLine.{card, fields, gives, countsIn, dataRoom, cardsLine, planLine, headerFields, countFields, prologueFields, catalogueLine, headerLine, dataLine, kindLine, firstLine};
 ghost use Rattle.read_first_line.specs.State.{toCome, Stepped, put};
 
 // What is to come of a record: cards; or fields of the present part, then so many 1-D parts and so many 2-D rows.
@@ -101,64 +103,91 @@ fn put_cards_head(total: Words, kind: u16, used: Words, row: &[u16], block: &mut
     read_store::store_filling(0, size, block, at);
 }
 
+// The counts among the fields of a Data record's first line.
+fn row_counts(row: &[u16]) -> Counts
+    requires { ⌜ length (now row) ≡ 20 ⌝ }
+    ensures { λ r. ⌜ r ≡ countsOf (now (row .entry)) ⌝ }
+{
+    Counts {
+        lprol: row[12],
+        jpar: row[13],
+        mpar: row[14],
+        nrow: row[15],
+    }
+}
+
 // A Data record's four counts.
 fn counts_in(num: Lines, row: &[u16]) -> Checked
     requires { ⌜ length (now row) ≡ 20 ⌝ }
     ensures { λ r. ⌜ checkedOf (take 16 (now (row .entry))) r ≡ countsIn (num .0) (take 16 (now (row .entry))) ⌝ }
 {
-    if record::under(16, row[12]) {
-        return Checked::Flawed(Flaw::Range(num, read_columns::column_of(Words(12))));
-    }
-    if record::under(0, row[13]) {
-        return Checked::Flawed(Flaw::Range(num, read_columns::column_of(Words(13))));
-    }
-    if record::under(0, row[14]) {
-        return Checked::Flawed(Flaw::Range(num, read_columns::column_of(Words(14))));
-    }
-    if record::under(0, row[15]) {
-        return Checked::Flawed(Flaw::Range(num, read_columns::column_of(Words(15))));
+    let right = record::in_range(row_counts(row));
+    if right < 4 {
+        let field = 12 + right as usize;
+        return Checked::Flawed(Flaw::Range(num, read_columns::column_of(Words(field))));
     }
     Checked::Good
 }
 
-// A Data record: room for its words, then its line count.
+// There is room for a Data record with these counts, and its stated line count is what they need.
+fn data_room(num: Lines, held: Words, lines: u16, c: Counts) -> Checked
+    requires { ⌜ held .0 < 2 ^ 22 ⌝ }
+    ensures { λ r. ⌜ checkedOf tt r ≡ dataRoom (num .0) (held .0) lines c ⌝ }
+{
+    let before = held.0;
+    let all = before + record::words_needed(c).0;
+    if 7998 < all {
+        return Checked::Flawed(Flaw::Much(num));
+    }
+    if lines as usize != record::lines_needed(c).0 {
+        return Checked::Flawed(Flaw::Count(num));
+    }
+    Checked::Good
+}
+
+// A Data record, whose first `used` fields are read.
 fn plan_line(num: Lines, held: Words, used: Words, row: &[u16], block: &mut [u8]) -> Step
     requires { ⌜ (used .0 ≡ min (getD (now row) 12 0) 20) × (16 ≤ used .0) × (length (now row) ≡ 20) × (held .0 < 2 ^ 22) ⌝ }
     ensures { λ r. ⌜ Stepped (held .0) (now (block .entry)) (planLine (num .0) (held .0) (take (used .0) (now (row .entry)))) (now (block .exit)) r ⌝ }
 {
-    let lines = row[0];
-    let lprol = row[12];
-    let jpar = row[13];
-    let mpar = row[14];
-    let nrow = row[15];
-    let total = record::words_needed(lprol, jpar, mpar, nrow);
-    let sum = held.0 + total.0;
-    if 7998 < sum {
-        return Step::Refused(Flaw::Much(num));
+    let c = row_counts(row);
+    match data_room(num, held, row[0], c) {
+        Checked::Flawed(f) => Step::Refused(f),
+        Checked::Good => put_data(held, used, c, row, block),
     }
-    let needed = record::lines_needed(lprol, jpar, mpar, nrow);
-    if units::lines_said(lines).0 != needed.0 {
-        return Step::Refused(Flaw::Count(num));
-    }
+}
+
+// Puts the words of a Data record's first line.
+fn put_data(held: Words, used: Words, c: Counts, row: &[u16], block: &mut [u8]) -> Step
+    requires { ⌜ (used .0 ≡ min (c .lprol) 20) × (16 ≤ used .0) × (length (now row) ≡ 20) × (wordsNeeded c < 65536) × (held .0 < 2 ^ 22) ⌝ }
+    ensures { λ r. ⌜ Stepped (held .0) (now (block .entry)) (gives (wordsNeeded c ∷ (1002 ∷ slice 2 (used .0) (now (row .entry)))) (map fields (drop 1 (plan c)))) (now (block .exit)) r ⌝ }
+{
     let behind = held.0 + used.0;
-    put_head(total, record::DATA, used, row, block, held);
-    Step::Next(data_plan(used, lprol, jpar, mpar, nrow), Words(behind))
+    put_head(
+        record::words_needed(c),
+        record::DATA,
+        used,
+        row,
+        block,
+        held,
+    );
+    Step::Next(data_plan(used, c), Words(behind))
 }
 
 // What is to come of a Data record after the fields of its first line.
-fn data_plan(used: Words, lprol: u16, jpar: u16, mpar: u16, nrow: u16) -> Plan
-    requires { ⌜ (used .0 ≡ min lprol 20) × (0 < lprol) ⌝ }
-    ensures { λ r. ⌜ toCome r ≡ map fields (drop 1 (plan lprol jpar mpar nrow)) ⌝ }
+fn data_plan(used: Words, c: Counts) -> Plan
+    requires { ⌜ (used .0 ≡ min (c .lprol) 20) × (0 < c .lprol) ⌝ }
+    ensures { λ r. ⌜ toCome r ≡ map fields (drop 1 (plan c)) ⌝ }
 {
-    let left = lprol as usize - used.0;
-    let rows = nrow as usize + 1;
+    let left = c.lprol as usize - used.0;
+    let rows = c.nrow as usize + 1;
     Plan {
         cards: Lines(0),
         left: Words(left),
         singles: 2,
-        jpar: units::words_said(jpar),
+        jpar: units::words_said(c.jpar),
         rows,
-        mpar: units::words_said(mpar),
+        mpar: units::words_said(c.mpar),
     }
 }
 

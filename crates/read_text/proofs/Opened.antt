@@ -1,29 +1,29 @@
 -- What an accepted line gives: what it spells, and the lines of its record still to come.
-use mathlib.Core.Path.{_≡_, refl, ap, _∙_}
+use mathlib.Core.Path.{_≡_, refl, sym, ap, subst, _∙_}
 use mathlib.Core.Bool.{not, _||_}
 use mathlib.Core.List.{List, [], _∷_, _++_, map}
 use Prim.Native.Nat.{ℕ, zero, suc, _+_, _-_, _*_, _^_, _≤_, _<_, min}
 use native.Mathlib.Nat.{add-zero}
 use native.Mathlib.Omega.{arith}
-use borrow.Author.Tests.{ltb-false, eqb-true, not-false}
+use borrow.Author.Tests.{ltb-true, ltb-false, eqb-true, not-false}
 use lib.Dec.{ltb, eqb}
 use lib.ListN.{length, getD, drop, replicate, length-append, length-drop, length-replicate, List·getD-append}
-use Rattle.units.specs.Answers.{answer, refused}
+use Rattle.units.specs.Answers.{answer, passed, refused}
 use Rattle.units.proofs.Verdicts.{or-off}
 use Rattle.words.specs.Words.{word}
-use Rattle.record.specs.Judging.{underLeast, wordsNeeded}
-use Rattle.record.specs.Lines.{linesNeeded}
-use Rattle.record.specs.Rules.{Least}
-use Rattle.record.proofs.Passed.{at-least}
+use Rattle.record.specs.declared.Counts.{Counts}
+use Rattle.record.specs.Counts.{countsOf, wordsNeeded, linesNeeded, inRange}
+use Rattle.record.specs.Rules.{CountsOk}
+use Rattle.record.proofs.FourCounts.{range-ok, counts-append}
 use Rattle.line_plan.specs.Plan.{plan, dataPlan}
 use Rattle.units.specs.Units.{Line}
 use Rattle.line_plan.proofs.Plans.{fieldsIn, part-turn, fieldsIn-plan}
 use Rattle.read_columns.specs.Columns.{badColumn, inkFrom, blankAfter, columnOf, numbers, zeros}
 use Rattle.read_line.proofs.Later.{card-size}
-use Rattle.read_first_line.specs.FirstLine.{Shape, card, fields, Read, gives, cardsLine, countsIn, planLine, headerFields, countFields, prologueFields, catalogueLine, headerLine, dataLine, kindLine, firstLine}
+use Rattle.read_first_line.specs.FirstLine.{Shape, card, fields, Read, gives, cardsLine, countsIn, dataRoom, planLine, headerFields, countFields, prologueFields, catalogueLine, headerLine, dataLine, kindLine, firstLine}
 use Rattle.read_line.specs.Lines.{rowFields, inState, readLine}
 use Rattle.read_text.specs.Spelled.{Readable, Blanks, SpellsAll, SpellsZero, LineSpells}
-use Rattle.units.proofs.Told.{Told, Known, then-known, known-as}
+use Rattle.units.proofs.Told.{Known, then-known, known-as}
 use Rattle.read_text.proofs.Told.{told}
 use Rattle.read_text.specs.Cases.{TextRow}
 use Rattle.units.proofs.Choosing.{by-test}
@@ -66,32 +66,25 @@ pub record CardsFirst (n kind shows : ℕ) (l : Line) (s : Read) : Type 0 where
   pub words : s .words ≡ 40 * word head 1 ∷ (kind ∷ drop 2 head) ++ replicate (40 - length head) 0
   pub rest : s .rest ≡ replicate (word head 1 - 1) card
 
--- the counts of a Data record are in range
-pub record Counts (front : List ℕ) : Type 0 where
-  pub lprol : Least 16 (word front 13)
-  pub jpar : Least 0 (word front 14)
-  pub mpar : Least 0 (word front 15)
-  pub nrow : Least 0 (word front 16)
-
 -- fields up to the counts
 record CountsHead (l : Line) (head : List ℕ) : Type 0 where
   read : WordsRead l 0 16 head
   says : word head 2 ≡ 1101
-  counts : Counts head
+  counts : CountsOk (countsOf head)
 
 -- and all fields of the line
 pub record DataHead (l : Line) (head : List ℕ) : Type 0 where
   pub read : WordsRead l 0 (min (word head 13) 20) head
   pub blank : Blanks (drop (6 * min (word head 13) 20) l)
   pub says : word head 2 ≡ 1101
-  pub counts : Counts head
+  pub counts : CountsOk (countsOf head)
 
 -- the first line of a Data record
 pub record DataFirst (l : Line) (s : Read) : Type 0 where
   pub head : List ℕ
   pub is : DataHead l head
-  pub lines : word head 1 ≡ linesNeeded (word head 13) (word head 14) (word head 15) (word head 16)
-  pub words : s .words ≡ wordsNeeded (word head 13) (word head 14) (word head 15) (word head 16) ∷ (1002 ∷ drop 2 head)
+  pub lines : word head 1 ≡ linesNeeded (countsOf head)
+  pub words : s .words ≡ wordsNeeded (countsOf head) ∷ (1002 ∷ drop 2 head)
   pub rest : s .rest ≡ map fields (drop 1 (dataPlan head))
 
 pub data First (l : Line) (s : Read) : Type 0 where
@@ -142,10 +135,6 @@ module _ (r more : List ℕ) (m : ℕ) (size : length r ≡ m) where
   stays : (j : ℕ) → j < m → getD (r ++ more) j 0 ≡ getD r j 0
   stays j h = List·getD-append r more 0 j (omega arith)
 
-  counts-on : 16 ≤ m → Counts r → Counts (r ++ more)
-  counts-on h c =
-      record { lprol = rw (stays 12 (omega arith)) (c .lprol); jpar = rw (stays 13 (omega arith)) (c .jpar); mpar = rw (stays 14 (omega arith)) (c .mpar); nrow = rw (stays 15 (omega arith)) (c .nrow) }
-
 -- a Data record's first line has min LPROL 20 fields
 head-on : (l : Line) (r more : List ℕ) → CountsHead l r → WordsRead l 16 (min (word r 13) 20 - 16) more → Blanks (drop (6 * min (word r 13) 20) l) → DataHead l (r ++ more)
 head-on l r more h m blank =
@@ -157,30 +146,22 @@ head-on l r more h m blank =
       read = rw lprol (rw sum at (both l 16 (min (word r 13) 20 - 16) r more (h .read) m));
       blank = rw lprol blank;
       says = stays r more 16 size 1 (omega arith) ∙ h .says;
-      counts = counts-on r more 16 size (omega arith) (h .counts);
+      counts = subst (λ c. CountsOk c) (sym (counts-append r more (omega arith))) (h .counts);
     }
 
 -- the first line of a Data record's plan, and the others
-pub plan-turn : (lprol jpar mpar nrow : ℕ) → 0 < lprol → plan lprol jpar mpar nrow ≡ min lprol 20 ∷ drop 1 (plan lprol jpar mpar nrow)
+pub plan-turn : (c : Counts) → 0 < c .lprol → plan c ≡ min (c .lprol) 20 ∷ drop 1 (plan c)
 unfolding plan
-plan-turn lprol jpar mpar nrow h = rw (part-turn lprol h) refl
+plan-turn c h = rw (part-turn (c .lprol) h) refl
 
 module _ (num : ℕ) (hn : num < 2 ^ 24) where
-  -- row 27 at this field
-  range : (k : ℕ) → k ≤ 20 → Told TextRow (answer 27 num (columnOf k) 0)
-  range k h = told 27 num (columnOf k) (omega arith) hn (omega arith)
-
-  counts-known : (r : List ℕ) → Known TextRow (λ q. (q ≡ r) × Counts r) (countsIn num r)
+  counts-known : (r : List ℕ) → Known TextRow (λ q. (q ≡ r) × CountsOk (countsOf r)) (countsIn num r)
   unfolding countsIn
   counts-known r =
-      by-test (Known TextRow P) (underLeast 16 (word r 13)) (refused (answer 27 num (columnOf 12) 0)) _ (λ _. range 12 (omega arith))
-      (λ l. by-test (Known TextRow P) (underLeast 0 (word r 14)) (refused (answer 27 num (columnOf 13) 0)) _ (λ _. range 13 (omega arith))
-      (λ j. by-test (Known TextRow P) (underLeast 0 (word r 15)) (refused (answer 27 num (columnOf 14) 0)) _ (λ _. range 14 (omega arith))
-      (λ m. by-test (Known TextRow P) (underLeast 0 (word r 16)) (refused (answer 27 num (columnOf 15) 0)) _ (λ _. range 15 (omega arith))
-      (λ n. (refl, record { lprol = at-least 16 (word r 13) l; jpar = at-least 0 (word r 14) j; mpar = at-least 0 (word r 15) m; nrow = at-least 0 (word r 16) n })))))
-    where
-      P : List ℕ → Type 0
-      P q = (q ≡ r) × Counts r
+      let right = inRange (countsOf r) in
+      by-test (Known TextRow (λ q. (q ≡ r) × CountsOk (countsOf r))) (ltb right 4) (refused (answer 27 num (columnOf (12 + right)) 0)) (passed r)
+      (λ t. told 27 num (columnOf (12 + right)) (omega arith) hn (omega (arith, ltb-true right 4 t)))
+      (λ t. (refl, range-ok (countsOf r) (ltb-false right 4 t)))
 
   module _ (held : ℕ) (l : Line) where
     -- the line of a Catalogue or a Header with n fields that may be free
@@ -209,31 +190,39 @@ module _ (num : ℕ) (hn : num < 2 ^ 24) where
     -- the line of a Data record
     module _ (head : List ℕ) (is : DataHead l head) where
       abbrev needed : ℕ
-      needed = wordsNeeded (word head 13) (word head 14) (word head 15) (word head 16)
+      needed = wordsNeeded (countsOf head)
 
-      data-open : word head 1 ≡ linesNeeded (word head 13) (word head 14) (word head 15) (word head 16) → held + needed ≤ 7998
+      data-open : word head 1 ≡ linesNeeded (countsOf head) → held + needed ≤ 7998
           → Opens held l (record { words = needed ∷ (1002 ∷ drop 2 head); rest = map fields (drop 1 (dataPlan head)) })
       unfolding fieldsIn
       data-open lines room =
           let least = is .counts .lprol .least-is in
           let size = is .read .count in
           let come = fields-to-come (drop 1 (dataPlan head)) in
-          let first = ap fieldsIn (plan-turn (word head 13) (word head 14) (word head 15) (word head 16) (omega arith)) in
-          let all = fieldsIn-plan (word head 13) (word head 14) (word head 15) (word head 16) in
+          let first = ap fieldsIn (plan-turn (countsOf head) (omega arith)) in
+          let all = fieldsIn-plan (countsOf head) in
           record {
             first = data-first (record { head = head; is = is; lines = lines; words = refl; rest = refl });
             total = omega (arith, length-drop 2 head);
             room = room;
           }
 
+      room-known : Known TextRow (λ _. (word head 1 ≡ linesNeeded (countsOf head)) × (held + needed ≤ 7998)) (dataRoom num held (word head 1) (countsOf head))
+      unfolding dataRoom
+      room-known =
+          let lines = linesNeeded (countsOf head) in
+          by-test (Known TextRow R) (ltb 7998 (held + needed)) (refused (answer 28 num 1 0)) _ (λ _. told 28 num 1 (omega arith) hn (omega arith))
+          (λ t. by-test (Known TextRow R) (not (eqb (word head 1) lines)) (refused (answer 24 num 1 0)) _ (λ _. told 24 num 1 (omega arith) hn (omega arith))
+          (λ u. (eqb-true (word head 1) lines (not-false _ u), ltb-false 7998 (held + needed) t)))
+        where
+          R : Unit {0} → Type 0
+          R _ = (word head 1 ≡ linesNeeded (countsOf head)) × (held + needed ≤ 7998)
+
       plan-known : Known TextRow (Opens held l) (planLine num held head)
       unfolding planLine
       plan-known =
-          let lines = linesNeeded (word head 13) (word head 14) (word head 15) (word head 16) in
-          by-test (Known TextRow (Opens held l)) (ltb 7998 (held + needed)) (refused (answer 28 num 1 0)) _ (λ _. told 28 num 1 (omega arith) hn (omega arith))
-          (λ t. by-test (Known TextRow (Opens held l)) (not (eqb (word head 1) lines)) (refused (answer 24 num 1 0)) _
-          (λ _. told 24 num 1 (omega arith) hn (omega arith))
-          (λ u. data-open (eqb-true (word head 1) lines (not-false _ u)) (ltb-false 7998 (held + needed) t)))
+          then-known TextRow (λ _. (word head 1 ≡ linesNeeded (countsOf head)) × (held + needed ≤ 7998)) (Opens held l) (dataRoom num held (word head 1) (countsOf head)) _ room-known
+          (λ _ r. data-open (r .0) (r .1))
 
     -- ---- any line
 
@@ -261,7 +250,7 @@ module _ (num : ℕ) (hn : num < 2 ^ 24) where
       unfolding countFields
       count-fields-known e =
           then-known TextRow (WordsRead l 12 4) (CountsHead l) (numbers num l 12 4) _ (numbers-known num hn l 12 4 (omega arith))
-          (λ more m. known-as TextRow (λ q. (q ≡ head ++ more) × Counts (head ++ more)) (CountsHead l) (countsIn num (head ++ more)) (counts-known (head ++ more))
+          (λ more m. known-as TextRow (λ q. (q ≡ head ++ more) × CountsOk (countsOf (head ++ more))) (CountsHead l) (countsIn num (head ++ more)) (counts-known (head ++ more))
           (λ q c. rw (c .0) (record { read = both l 12 4 head more read m; says = stays head more 12 (read .count) 1 (omega arith) ∙ e; counts = c .1 })))
 
     prologue-known : Readable l → (r : List ℕ) → CountsHead l r → Known TextRow (DataHead l) (prologueFields num l r)

@@ -1,5 +1,5 @@
 -- A record passes exactly where it keeps the rules.
-use mathlib.Core.Path.{_≡_, refl, sym, ap, _∙_}
+use mathlib.Core.Path.{_≡_, refl, sym, ap, subst, _∙_}
 use mathlib.Core.Bool.{Bool, true, false}
 use mathlib.Core.List.{List, [], _∷_, _++_}
 use Prim.Native.Nat.{ℕ, suc, _+_, _-_, _/_, _%_, _≤_, _<_}
@@ -12,9 +12,11 @@ use Rattle.units.specs.Choice.{if_then_else_}
 use Rattle.units.proofs.Verdicts.{and-on}
 use Rattle.words.specs.Words.{word, All, Below}
 use Rattle.words.proofs.Lists.{all-take}
-use Rattle.record.specs.Judging.{cardWord, firstNotZero, firstNotCard}
+use Rattle.record.specs.Judging.{cardWord}
 use Rattle.words.specs.Scans.{passing, within, wordWithin, isZero}
-use Rattle.record.specs.Rules.{CardWord, CardsOk, DataOk, KindOk, catalogue, header, dataRecord, RecordOk}
+use Rattle.record.specs.Counts.{wordsNeeded}
+use Rattle.record.specs.Rules.{CardWord, CardsOk, CountsOk, DataOk, KindOk, catalogue, header, dataRecord, RecordOk}
+use Rattle.record.proofs.FourCounts.{counts-take, counts-append}
 use Rattle.record.proofs.Passed.{CardsPassed, DataPassed, RecordPassed, a-catalogue, a-header, a-data}
 
 -- ---- a scan that finds no offender, and the other way
@@ -59,7 +61,6 @@ module _ (rest : List ℕ) (k : ℕ) (room : k ≤ length rest) where
   taken = length-take-le k rest room
 
   cards-ok : (z : ℕ) → 1 ≤ z → z ≤ 41 → CardsPassed z rest k → CardsOk z (take k rest)
-  unfolding firstNotZero firstNotCard
   cards-ok z low high c =
       let t = c .right in
       let zs : length (slice (z - 1) 40 rest) ≡ 40 - (z - 1) = length-slice (z - 1) 40 rest (omega arith) in
@@ -72,15 +73,7 @@ module _ (rest : List ℕ) (k : ℕ) (room : k ≤ length rest) where
       }
 
   data-ok : DataPassed rest k → DataOk (take k rest)
-  data-ok c =
-      let at : (j : ℕ) → j < 16 → getD (take k rest) j 0 ≡ getD rest j 0 = λ j h. getD-take k rest j 0 (omega (arith, c .least)) in
-      record {
-        lprol = rw (at 12 (omega arith)) (c .lprol);
-        jpar = rw (at 13 (omega arith)) (c .jpar);
-        mpar = rw (at 14 (omega arith)) (c .mpar);
-        nrow = rw (at 15 (omega arith)) (c .nrow);
-        sum = rw (at 12 (omega arith), at 13 (omega arith), at 14 (omega arith), at 15 (omega arith), taken) (c .sum);
-      }
+  data-ok c = let same = sym (counts-take k rest (c .least)) in record { counts = subst (λ x. CountsOk x) same (c .counts); sum = taken ∙ c .sum ∙ ap wordsNeeded same }
 
   first-ok : 2 ≤ k → word rest 1 ≡ k → (word (take k rest) 1 ≡ length (take k rest)) × (word (take k rest) 2 ≡ word rest 2)
   first-ok h e = (getD-take k rest 0 0 (omega arith) ∙ e ∙ sym taken, getD-take k rest 1 0 (omega arith))
@@ -103,7 +96,6 @@ module _ (r tail : List ℕ) (total : word r 1 ≡ length r) where
   wide = length-append r tail
 
   cards-back : (z : ℕ) → 1 ≤ z → z ≤ 41 → CardsOk z r → CardsPassed z (r ++ tail) (length r)
-  unfolding firstNotZero firstNotCard
   cards-back z low high c =
       let w = wide in
       let s = c .size in
@@ -121,17 +113,14 @@ module _ (r tail : List ℕ) (total : word r 1 ≡ length r) where
   data-back : DataOk r → DataPassed (r ++ tail) (length r)
   data-back c =
       let w = wide in
-      let long : 16 ≤ length r = omega (arith, c .sum, c .lprol .least-is) in
-      let at : (j : ℕ) → j < 16 → getD (r ++ tail) j 0 ≡ getD r j 0 = λ j h. List·getD-append r tail 0 j (omega arith) in
+      let long : 16 ≤ length r = omega (arith, c .sum, c .counts .lprol .least-is) in
+      let same = sym (counts-append r tail long) in
       record {
-        total = at 0 (omega arith) ∙ total;
+        total = List·getD-append r tail 0 0 (omega arith) ∙ total;
         least = long;
         room = omega arith;
-        lprol = rw (at 12 (omega arith)) (c .lprol);
-        jpar = rw (at 13 (omega arith)) (c .jpar);
-        mpar = rw (at 14 (omega arith)) (c .mpar);
-        nrow = rw (at 15 (omega arith)) (c .nrow);
-        sum = rw (at 12 (omega arith), at 13 (omega arith), at 14 (omega arith), at 15 (omega arith)) (c .sum);
+        counts = subst (λ x. CountsOk x) same (c .counts);
+        sum = c .sum ∙ ap wordsNeeded same;
       }
 
   second : 16 ≤ length r → word (r ++ tail) 2 ≡ word r 2

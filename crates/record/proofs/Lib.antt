@@ -1,4 +1,4 @@
-pub mod Scan
+pub mod FourCounts
 pub mod Passed
 pub mod Exact
 pub mod Values

@@ -4,21 +4,18 @@ use mathlib.Core.Bool.{Bool, true, false, not, _||_}
 use mathlib.Core.List.{List}
 use Prim.Native.Nat.{ℕ, _%_, _≤_, _<_}
 use native.Mathlib.Omega.{arith}
-use borrow.Author.Tests.{ltb-false, leb-false, eqb-true, not-false, le-ltb, lt-leb, eq-eqb}
-use lib.Dec.{ltb, leb, eqb}
+use borrow.Author.Tests.{ltb-false, eqb-true, not-false, le-ltb, eq-eqb}
+use lib.Dec.{ltb, eqb}
 use lib.ListN.{length}
 use Rattle.units.specs.Choice.{if_then_else_}
 use Rattle.units.specs.Answers.{answer, passed, refused}
 use Rattle.units.proofs.Verdicts.{never-passed, else-passed, or-off}
-use Rattle.words.specs.Words.{word}
-use Rattle.record.specs.Rules.{Least}
-use Rattle.record.specs.Judging.{wrongTotal, firstNotZero, firstNotCard, wordsNeeded, underLeast, judgeCards, judgeCounts, judgeData, judgeRecord}
-
--- a total that is right
-pub record TotalRight (total left : ℕ) : Type 0 where
-  pub least : 40 ≤ total
-  pub whole : total % 40 ≡ 0
-  pub room : total ≤ left
+use Rattle.words.specs.Words.{word, words}
+use Rattle.words.specs.Scans.{passing, someFails, isZero}
+use Rattle.record.specs.Counts.{countsOf, wordsNeeded, inRange}
+use Rattle.record.specs.Rules.{CountsOk}
+use Rattle.record.proofs.FourCounts.{range-ok, ok-range}
+use Rattle.record.specs.Judging.{TotalRight, cardWord, wrongTotal, judgeContent, judgeCards, judgeCounts, judgeData, judgeRecord}
 
 pub total-right : (total left : ℕ) → wrongTotal total left ≡ false → TotalRight total left
 unfolding wrongTotal
@@ -39,85 +36,56 @@ right-total total left h = simp (le-ltb total 40 (h .least), eq-eqb (total % 40)
 pub record CardsPassed (z : ℕ) (rest : List ℕ) (k : ℕ) : Type 0 where
   pub total : word rest 1 ≡ k
   pub right : TotalRight k (length rest)
-  pub zeros : 40 < firstNotZero z rest
-  pub cards : k < firstNotCard k rest
+  pub zeros : length (words rest z 40) ≤ passing isZero (words rest z 40)
+  pub cards : length (words rest 41 k) ≤ passing cardWord (words rest 41 k)
 
 cards-passed : (n z : ℕ) (rest : List ℕ) (k : ℕ) → judgeCards n z rest ≡ passed k → CardsPassed z rest k
-unfolding judgeCards
+unfolding judgeCards judgeContent
 cards-passed n z rest k e =
     let a = else-passed (wrongTotal (word rest 1) (length rest)) _ _ _ e in
-    let b = else-passed (leb (firstNotZero z rest) 40) _ _ _ (a .1) in
-    let d = else-passed (leb (firstNotCard (word rest 1) rest) (word rest 1)) _ _ _ (b .1) in
+    let b = else-passed (someFails isZero (words rest z 40)) _ _ _ (a .1) in
+    let d = else-passed (someFails cardWord (words rest 41 (word rest 1))) _ _ _ (b .1) in
     let t : word rest 1 ≡ k = cc (d .1) in
     record {
       total = t;
       right = rw t at (total-right (word rest 1) (length rest) (a .0));
-      zeros = leb-false (firstNotZero z rest) 40 (b .0);
-      cards = rw t at (leb-false (firstNotCard (word rest 1) rest) (word rest 1) (d .0));
+      zeros = ltb-false (passing isZero (words rest z 40)) (length (words rest z 40)) (b .0);
+      cards = rw t at (ltb-false (passing cardWord (words rest 41 (word rest 1))) (length (words rest 41 (word rest 1))) (d .0));
     }
 
 passed-cards : (n z : ℕ) (rest : List ℕ) (k : ℕ) → CardsPassed z rest k → judgeCards n z rest ≡ passed k
-unfolding judgeCards
-passed-cards n z rest k c =
-    simp
-    (c .total, right-total k (length rest) (c .right), lt-leb (firstNotZero z rest) 40 (c .zeros), lt-leb (firstNotCard k rest) k (c .cards))
-
-pub at-least : (least w : ℕ) → underLeast least w ≡ false → Least least w
-unfolding underLeast
-at-least least w e =
-    let o = or-off (ltb w least) _ e in
-    record { least-is = ltb-false w least (o .0); sign = leb-false 32768 w (o .1) }
-
-pub least-at : (least w : ℕ) → Least least w → underLeast least w ≡ false
-unfolding underLeast
-least-at least w h = simp (le-ltb w least (h .least-is), lt-leb 32768 w (h .sign))
+unfolding judgeCards judgeContent
+passed-cards n z rest k c = simp (c .total, right-total k (length rest) (c .right), le-ltb _ _ (c .zeros), le-ltb _ _ (c .cards))
 
 -- a Data record of k words that passed
 pub record DataPassed (rest : List ℕ) (k : ℕ) : Type 0 where
   pub total : word rest 1 ≡ k
   pub least : 16 ≤ k
   pub room : k ≤ length rest
-  pub lprol : Least 16 (word rest 13)
-  pub jpar : Least 0 (word rest 14)
-  pub mpar : Least 0 (word rest 15)
-  pub nrow : Least 0 (word rest 16)
-  pub sum : k ≡ wordsNeeded (word rest 13) (word rest 14) (word rest 15) (word rest 16)
+  pub counts : CountsOk (countsOf rest)
+  pub sum : k ≡ wordsNeeded (countsOf rest)
 
 data-passed : (n : ℕ) (rest : List ℕ) (k : ℕ) → judgeData n rest ≡ passed k → DataPassed rest k
 unfolding judgeData judgeCounts
 data-passed n rest k e =
     let a = else-passed (ltb (word rest 1) 16 || ltb (length rest) (word rest 1)) _ _ _ e in
-    let l = else-passed (underLeast 16 (word rest 13)) _ _ _ (a .1) in
-    let j = else-passed (underLeast 0 (word rest 14)) _ _ _ (l .1) in
-    let m = else-passed (underLeast 0 (word rest 15)) _ _ _ (j .1) in
-    let r = else-passed (underLeast 0 (word rest 16)) _ _ _ (m .1) in
-    let s = else-passed (not (eqb (word rest 1) (wordsNeeded (word rest 13) (word rest 14) (word rest 15) (word rest 16)))) _ _ _ (r .1) in
+    let r = else-passed (ltb (inRange (countsOf rest)) 4) _ _ _ (a .1) in
+    let s = else-passed (not (eqb (word rest 1) (wordsNeeded (countsOf rest)))) _ _ _ (r .1) in
     let t : word rest 1 ≡ k = cc (s .1) in
     let o = or-off (ltb (word rest 1) 16) _ (a .0) in
     record {
       total = t;
       least = omega (arith, ltb-false (word rest 1) 16 (o .0));
       room = omega (arith, ltb-false (length rest) (word rest 1) (o .1));
-      lprol = at-least 16 (word rest 13) (l .0);
-      jpar = at-least 0 (word rest 14) (j .0);
-      mpar = at-least 0 (word rest 15) (m .0);
-      nrow = at-least 0 (word rest 16) (r .0);
+      counts = range-ok (countsOf rest) (ltb-false _ _ (r .0));
       sum = sym t ∙ eqb-true (word rest 1) _ (not-false _ (s .0));
     }
 
 passed-data : (n : ℕ) (rest : List ℕ) (k : ℕ) → DataPassed rest k → judgeData n rest ≡ passed k
 unfolding judgeData judgeCounts
 passed-data n rest k c =
-    simp (
-      c .total,
-      le-ltb k 16 (c .least),
-      le-ltb (length rest) k (c .room),
-      least-at 16 (word rest 13) (c .lprol),
-      least-at 0 (word rest 14) (c .jpar),
-      least-at 0 (word rest 15) (c .mpar),
-      least-at 0 (word rest 16) (c .nrow),
-      eq-eqb k (wordsNeeded (word rest 13) (word rest 14) (word rest 15) (word rest 16)) (c .sum),
-    )
+    simp
+    (c .total, le-ltb k 16 (c .least), le-ltb (length rest) k (c .room), ok-range (countsOf rest) (c .counts), eq-eqb k (wordsNeeded (countsOf rest)) (c .sum))
 
 -- a record that passed, by its kind
 pub data RecordPassed (rest : List ℕ) (k : ℕ) : Type 0 where

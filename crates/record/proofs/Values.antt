@@ -9,7 +9,7 @@ use lib.Dec.{leb, eqb}
 use lib.ListN.{length}
 use Rattle.units.proofs.Verdicts.{and-on, either-on}
 use Rattle.words.specs.Words.{word}
-use Rattle.record.specs.Judging.{wordsNeeded}
+use Rattle.record.specs.Counts.{countsOf, wordsNeeded}
 use Rattle.words.specs.Scans.{within}
 use Rattle.record.specs.Rules.{DataOk, KindOk, catalogue, header, dataRecord, RecordOk}
 use Rattle.record.specs.Values.{isValue}
@@ -43,11 +43,11 @@ pub record ValueAt (r : List ℕ) (w : ℕ) : Type 0 where
 pub value-at : (r : List ℕ) (w : ℕ) → RecordOk r → isValue r w ≡ true → ValueAt r w
 unfolding isValue
 value-at r w h e =
-    let codes = word r 13 + word r 14 in
-    let values = codes + word r 14 in
-    let all = wordsNeeded (word r 13) (word r 14) (word r 15) (word r 16) in
-    let a = and-on (eqb (word r 2) 1002) (within (codes + 1) values w || within (values + word r 15 + 1) all w) e in
+    let c = countsOf r in
+    let codes = c .lprol + c .jpar in
+    let values = codes + c .jpar in
+    let a = and-on (eqb (word r 2) 1002) (within (codes + 1) values w || within (values + c .mpar + 1) (wordsNeeded c) w) e in
     let kind = eqb-true (word r 2) 1002 (a .0) in
     let d = is-data r h kind in
-    let m = in-ranges codes values (values + word r 15) all w (omega (arith, d .lprol .least-is)) (omega arith) (omega arith) (omega arith) (a .1) in
+    let m = in-ranges codes values (values + c .mpar) (wordsNeeded c) w (omega (arith, d .counts .lprol .least-is)) (omega arith) (omega arith) (omega arith) (a .1) in
     record { kind = kind; low = m .0; high = omega (arith, m .1, d .sum) }

@@ -1,3 +1,4 @@
+pub mod Counts
 pub mod Judging
 pub mod Cases
 pub mod Lines

@@ -5,11 +5,13 @@ use units::Words;
 ghost use mathlib.Core.Path.{_≡_};
 ghost use Prim.Native.Nat.{_+_, _*_, _<_, _≤_};
 ghost use lib.ListN.{length};
+ghost use lib.Seq.{slice};
 ghost use Rattle.words.specs.Words.{wordsOf};
-ghost use Rattle.words.specs.Scans.{within};
-ghost use Rattle.record.specs.Judging.{wrongTotal, underLeast, wordsNeeded, judgeCards, judgeCounts, judgeData, judgeRecord};
+ghost use Rattle.words.specs.Scans.{passing, within, wordWithin};
+ghost use Rattle.record.specs.Counts.{countsOf, wordsNeeded, linesNeeded, underLeast, inRange};
+ghost use Rattle.record.specs.Judging.{TotalRight, wrongTotal, wrongDataTotal, judgeContent, judgeCards, judgeCounts, judgeData, judgeRecord};
 ghost use Rattle.record.specs.Cases.{faultOf, checkedOf};
-ghost use Rattle.record.specs.Lines.{linesNeeded, lineCount};
+ghost use Rattle.record.specs.Lines.{lineCount};
 ghost use Rattle.record.specs.Values.{amongValues, isValue};
 
 pub const CATALOGUE: u16 = 2001;
@@ -17,6 +19,14 @@ pub const CATALOGUE: u16 = 2001;
 pub const HEADER: u16 = 3002;
 
 pub const DATA: u16 = 1002;
+
+// The four counts of a Data record: its prologue, its 1-D parameters, its 2-D parameters, its rows.
+pub struct Counts {
+    pub lprol: u16,
+    pub jpar: u16,
+    pub mpar: u16,
+    pub nrow: u16,
+}
 
 // What is wrong with a record: the record's number, and the word's where it varies.
 pub enum Fault {
@@ -49,39 +59,73 @@ fn wrong_total(total: Words, left: Words) -> bool
     most < words
 }
 
+// Of the words after `from` up to `upto`, those before the first that has a byte outside of `least` to `most`.
+fn passing_in(rest: &[u8], from: Words, upto: Words, least: u16, most: u16) -> Words
+    requires { ⌜ (from .0 ≤ upto .0) × (upto .0 ≤ length (wordsOf (now rest))) ⌝ }
+    ensures { λ r. ⌜ r .0 ≡ passing (wordWithin least most) (slice (from .0) (upto .0) (wordsOf (now (rest .entry)))) ⌝ }
+{
+    words::first_outside(words::part(rest, from, upto), least, most)
+}
+
+// The content of a Catalogue or a Header of `total` words: zeros from word `first` to 40, then cards.
+fn judge_content(rest: &[u8], number: u16, first: Words, total: Words) -> Checked
+    requires { ⌜ TotalRight (total .0) (length (wordsOf (now rest))) × (total .0 < 65536) × (1 ≤ first .0) × (first .0 ≤ 40) ⌝ }
+    ensures { λ r. ⌜ checkedOf r ≡ judgeContent number (first .0) (total .0) (wordsOf (now (rest .entry))) ⌝ }
+{
+    let z = first.0;
+    let zeros = passing_in(rest, Words(z - 1), Words(40), 0, 0).0;
+    if zeros < 41 - z {
+        let word = z + zeros;
+        return Checked::Refused(Fault::NotZero(number, word as u16));
+    }
+    let cards = passing_in(rest, Words(40), total, 32, 126).0;
+    if cards < total.0 - 40 {
+        let word = 41 + cards;
+        return Checked::Refused(Fault::Card(number, word as u16));
+    }
+    Checked::Passed(total)
+}
+
 // A Catalogue or a Header, whose words from `first` to 40 must be zero.
 fn judge_cards(rest: &[u8], number: u16, first: Words) -> Checked
     requires { ⌜ (16 ≤ length (wordsOf (now rest))) × (1 ≤ first .0) × (first .0 ≤ 40) ⌝ }
     ensures { λ r. ⌜ checkedOf r ≡ judgeCards number (first .0) (wordsOf (now (rest .entry))) ⌝ }
 {
-    let z = first.0;
     let total = units::words_said(words::word_at(rest, Words(0)));
-    let end = total.0;
     if wrong_total(total, words::count(rest)) {
         return Checked::Refused(Fault::Total(number));
     }
-    let bad = z + words::first_outside(words::part(rest, Words(z - 1), Words(40)), 0, 0).0;
-    if bad <= 40 {
-        return Checked::Refused(Fault::NotZero(number, bad as u16));
-    }
-    let odd = 41 + words::first_outside(words::part(rest, Words(40), total), 32, 126).0;
-    if odd <= end {
-        return Checked::Refused(Fault::Card(number, odd as u16));
-    }
-    Checked::Passed(total)
+    judge_content(rest, number, first, total)
 }
 
-// The words that a Data record's four counts need, in a width that holds them.
-pub fn words_needed(lprol: u16, jpar: u16, mpar: u16, nrow: u16) -> Words
-    ensures { λ r. ⌜ r .0 ≡ wordsNeeded lprol jpar mpar nrow ⌝ }
+// The four counts of a Data record.
+pub fn counts_of(whole: &[u8]) -> Counts
+    requires { ⌜ 16 ≤ length (wordsOf (now whole)) ⌝ }
+    ensures { λ r. ⌜ r ≡ countsOf (wordsOf (now (whole .entry))) ⌝ }
 {
-    let rows = (mpar as usize) * (nrow as usize + 1);
-    let sum = lprol as usize + 2 * (jpar as usize) + rows;
+    let lprol = words::word_at(whole, Words(12));
+    let jpar = words::word_at(whole, Words(13));
+    let mpar = words::word_at(whole, Words(14));
+    let nrow = words::word_at(whole, Words(15));
+    Counts {
+        lprol,
+        jpar,
+        mpar,
+        nrow,
+    }
+}
+
+// The words that the counts need, in a width that holds them.
+pub fn words_needed(c: Counts) -> Words
+    ensures { λ r. ⌜ r .0 ≡ wordsNeeded c ⌝ }
+{
+    let rows = (c.mpar as usize) * (c.nrow as usize + 1);
+    let sum = c.lprol as usize + 2 * (c.jpar as usize) + rows;
     Words(sum)
 }
 
 // A count is under its least value: words are two's complement.
-pub fn under(least: u16, w: u16) -> bool
+fn under(least: u16, w: u16) -> bool
     ensures { λ r. ⌜ r ≡ underLeast least w ⌝ }
 {
     if w < least {
@@ -90,28 +134,51 @@ pub fn under(least: u16, w: u16) -> bool
     32768 <= w
 }
 
-// The four counts of a Data record of `total` words.
-fn judge_counts(number: u16, total: Words, lprol: u16, jpar: u16, mpar: u16, nrow: u16) -> Checked
-    ensures { λ r. ⌜ checkedOf r ≡ judgeCounts number (total .0) lprol jpar mpar nrow ⌝ }
+// Of the four counts, those before the first that is under its least value.
+pub fn in_range(c: Counts) -> u16
+    ensures { λ r. ⌜ r ≡ inRange c ⌝ }
 {
-    if under(16, lprol) {
-        return Checked::Refused(Fault::Counts(number, 13));
+    if under(16, c.lprol) {
+        return 0;
     }
-    if under(0, jpar) {
-        return Checked::Refused(Fault::Counts(number, 14));
+    if under(0, c.jpar) {
+        return 1;
     }
-    if under(0, mpar) {
-        return Checked::Refused(Fault::Counts(number, 15));
+    if under(0, c.mpar) {
+        return 2;
     }
-    if under(0, nrow) {
-        return Checked::Refused(Fault::Counts(number, 16));
+    if under(0, c.nrow) {
+        return 3;
     }
-    let needed = words_needed(lprol, jpar, mpar, nrow).0;
-    let stated = total.0;
-    if stated != needed {
+    4
+}
+
+// A Data record of `total` words, by its counts.
+fn judge_counts(number: u16, total: Words, c: Counts) -> Checked
+    ensures { λ r. ⌜ checkedOf r ≡ judgeCounts number (total .0) c ⌝ }
+{
+    let right = in_range(c);
+    if right < 4 {
+        let word = 13 + right;
+        return Checked::Refused(Fault::Counts(number, word));
+    }
+    let needed = words_needed(c).0;
+    if total.0 != needed {
         return Checked::Refused(Fault::Counts(number, 1));
     }
     Checked::Passed(total)
+}
+
+// LTOT of a Data record is under 16, or more than is left.
+fn wrong_data_total(total: Words, left: Words) -> bool
+    ensures { λ r. ⌜ r ≡ wrongDataTotal (total .0) (left .0) ⌝ }
+{
+    let stated = total.0;
+    let most = left.0;
+    if stated < 16 {
+        return true;
+    }
+    most < stated
 }
 
 // A Data record.
@@ -119,19 +186,11 @@ fn judge_data(rest: &[u8], number: u16) -> Checked
     requires { ⌜ 16 ≤ length (wordsOf (now rest)) ⌝ }
     ensures { λ r. ⌜ checkedOf r ≡ judgeData number (wordsOf (now (rest .entry))) ⌝ }
 {
-    let left = words::count(rest).0;
-    let total = units::words_said(words::word_at(rest, Words(0))).0;
-    if total < 16 {
+    let total = units::words_said(words::word_at(rest, Words(0)));
+    if wrong_data_total(total, words::count(rest)) {
         return Checked::Refused(Fault::Total(number));
     }
-    if left < total {
-        return Checked::Refused(Fault::Total(number));
-    }
-    let lprol = words::word_at(rest, Words(12));
-    let jpar = words::word_at(rest, Words(13));
-    let mpar = words::word_at(rest, Words(14));
-    let nrow = words::word_at(rest, Words(15));
-    judge_counts(number, Words(total), lprol, jpar, mpar, nrow)
+    judge_counts(number, total, counts_of(rest))
 }
 
 // The record that stands first in the rest of the record words.
@@ -155,14 +214,14 @@ pub fn judge_record(rest: &[u8], number: u16) -> Checked
     Checked::Refused(Fault::Kind(number))
 }
 
-// The lines that a Data record's four counts need.
-pub fn lines_needed(lprol: u16, jpar: u16, mpar: u16, nrow: u16) -> Lines
-    ensures { λ r. ⌜ r .0 ≡ linesNeeded lprol jpar mpar nrow ⌝ }
+// The lines that the counts need.
+pub fn lines_needed(c: Counts) -> Lines
+    ensures { λ r. ⌜ r .0 ≡ linesNeeded c ⌝ }
 {
-    let prologue = units::lines_of_fields(units::words_said(lprol)).0;
-    let single = units::lines_of_fields(units::words_said(jpar)).0;
-    let row = units::lines_of_fields(units::words_said(mpar)).0;
-    let rows = row * (nrow as usize + 1);
+    let prologue = units::lines_of_fields(units::words_said(c.lprol)).0;
+    let single = units::lines_of_fields(units::words_said(c.jpar)).0;
+    let row = units::lines_of_fields(units::words_said(c.mpar)).0;
+    let rows = row * (c.nrow as usize + 1);
     Lines(prologue + 2 * single + rows)
 }
 
@@ -174,11 +233,7 @@ pub fn line_count(whole: &[u8]) -> Lines
     if words::word_at(whole, Words(1)) != DATA {
         return units::lines_of_cards(words::count(whole));
     }
-    let lprol = words::word_at(whole, Words(12));
-    let jpar = words::word_at(whole, Words(13));
-    let mpar = words::word_at(whole, Words(14));
-    let nrow = words::word_at(whole, Words(15));
-    lines_needed(lprol, jpar, mpar, nrow)
+    lines_needed(counts_of(whole))
 }
 
 // A word's number lies from `least` to `most`.
@@ -189,14 +244,14 @@ fn is_between(word: usize, least: usize, most: usize) -> bool
 }
 
 // Word `word` of a Data record with these counts is a 1-D or a 2-D value.
-fn among_values(word: Words, lprol: u16, jpar: u16, mpar: u16, nrow: u16) -> bool
-    ensures { λ r. ⌜ r ≡ amongValues lprol jpar mpar nrow (word .0) ⌝ }
+fn among_values(word: Words, c: Counts) -> bool
+    ensures { λ r. ⌜ r ≡ amongValues c (word .0) ⌝ }
 {
     let w = word.0;
-    let codes = lprol as usize + jpar as usize;
-    let values = codes + jpar as usize;
-    let row_codes = values + mpar as usize;
-    let last = words_needed(lprol, jpar, mpar, nrow).0;
+    let codes = c.lprol as usize + c.jpar as usize;
+    let values = codes + c.jpar as usize;
+    let row_codes = values + c.mpar as usize;
+    let last = words_needed(c).0;
     is_between(w, codes + 1, values) || is_between(w, row_codes + 1, last)
 }
 
@@ -208,11 +263,7 @@ pub fn is_value(whole: &[u8], word: Words) -> bool
     if words::word_at(whole, Words(1)) != DATA {
         return false;
     }
-    let lprol = words::word_at(whole, Words(12));
-    let jpar = words::word_at(whole, Words(13));
-    let mpar = words::word_at(whole, Words(14));
-    let nrow = words::word_at(whole, Words(15));
-    among_values(word, lprol, jpar, mpar, nrow)
+    among_values(word, counts_of(whole))
 }
 
 // The four numbers of a fault.

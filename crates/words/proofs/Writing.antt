@@ -2,7 +2,7 @@
 use mathlib.Core.Path.{_≡_, refl, sym, ap, ap₂, _∙_}
 use mathlib.Core.Bool.{Bool, true, false}
 use mathlib.Core.Logic.{_⊎_, inl, inr}
-use mathlib.Core.List.{List, [], _∷_, _++_}
+use mathlib.Core.List.{List, [], _∷_, _++_, append-nil}
 use Prim.Native.Nat.{ℕ, suc, _+_, _^_, _≤_, _<_}
 use native.Mathlib.Nat.{add-zero, suc-add, add-suc}
 use native.Mathlib.Omega.{arith}
@@ -49,6 +49,18 @@ module _ {o : List ℕ} {at : ℕ} {whole : List ℕ} where
     -- nothing is left
     pub done : rest ≡ [] → Put o at whole out to
     done e = record { ends = omega (arith, g .total, ap length e); bytes = sym (ap (sets out to) e) ∙ g .same }
+
+-- a text of two pieces, put in one after the other
+module _ (o : List ℕ) (at : ℕ) {whole : List ℕ} (s r : List ℕ) (e : whole ≡ s ++ r) (room : Room o at whole) where
+  pub first-fits : Room o at s
+  first-fits = fits {o = o} start s r e room
+
+  module _ {out : List ℕ} {to : ℕ} (p : Put o at s out to) where
+    pub second-fits : Room out to r
+    second-fits = fits (on start s r e p) r [] (sym (append-nil r)) room
+
+    pub both-put : {out′ : List ℕ} {to′ : ℕ} → Put out to r out′ to′ → Put o at whole out′ to′
+    both-put q = done (on (on start s r e p) r [] (sym (append-nil r)) q) refl
 
 -- one byte is stored
 pub stored : (out : List ℕ) (to b : ℕ) → Put out to (b ∷ []) (set out to b) (to + 1)

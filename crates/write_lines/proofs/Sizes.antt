@@ -13,8 +13,8 @@ use Rattle.units.specs.Choice.{if_then_else_}
 use Rattle.units.specs.Units.{linesOfFields}
 use Rattle.words.specs.Words.{word, bytesOf, joined, All, Below}
 use Rattle.words.proofs.Laws.{length-bytesOf}
-use Rattle.record.specs.Judging.{wordsNeeded}
-use Rattle.record.specs.Lines.{linesNeeded, lineCount}
+use Rattle.record.specs.Counts.{countsOf, wordsNeeded, linesNeeded}
+use Rattle.record.specs.Lines.{lineCount}
 use Rattle.record.specs.Rules.{CardsOk, DataOk, KindOk, catalogue, header, dataRecord, RecordOk}
 use Rattle.block.specs.Judging.{Accepted}
 use Rattle.block.specs.Records.{recordsOf}
@@ -105,7 +105,7 @@ module _ (r : List ℕ) where
         record { lines = l; bytes = t; count-most = omega arith; size-most = omega (arith, cards-size) }
 
   module _ (e : eqb (word r 2) 1002 ≡ true) where
-    pub data-count : lineCount r ≡ linesNeeded (word r 13) (word r 14) (word r 15) (word r 16)
+    pub data-count : lineCount r ≡ linesNeeded (countsOf r)
     unfolding lineCount
     data-count = simp e
 
@@ -119,17 +119,14 @@ module _ (r : List ℕ) where
 
     data-sized : DataOk r → Sized r
     data-sized d =
-        let lprol = word r 13 in
-        let jpar = word r 14 in
-        let mpar = word r 15 in
-        let nrow = word r 16 in
-        let least = d .lprol .least-is in
-        let k : length r ≡ lprol + 2 * jpar + mpar * (nrow + 1) = d .sum in
+        let c = countsOf r in
+        let least = d .counts .lprol .least-is in
+        let k : length r ≡ wordsNeeded c = d .sum in
         let n = data-count in
-        let m : linesOfFields mpar * (nrow + 1) ≤ mpar * (nrow + 1) = mul-le-mul-right (nrow + 1) (omega arith) in
+        let m : linesOfFields (c .mpar) * (c .nrow + 1) ≤ c .mpar * (c .nrow + 1) = mul-le-mul-right (c .nrow + 1) (omega arith) in
         let sh : length (shownWords r) ≡ length r = omega (arith, length-drop 2 r) in
-        let f = fieldsIn-plan lprol jpar mpar nrow in
-        let p = length-plan lprol jpar mpar nrow in
+        let f = fieldsIn-plan c in
+        let p = length-plan c in
         let l : length (linesOf r) ≡ lineCount r = ap length data-lines ∙ length-laid (dataPlan r) (shownWords r) ∙ p ∙ sym n in
         let t : length (ended (linesOf r)) ≡ sizeOf r =
         ap (λ ls. length (ended ls)) data-lines ∙ omega (arith, data-size, length-text (dataPlan r) (shownWords r) (omega arith)) in
@@ -165,12 +162,13 @@ text-most (r ∷ (q ∷ rs)) h s =
 pub data-is : (r : List ℕ) → word r 2 ≡ 1002 → ended (linesOf r) ≡ ended (laid (dataPlan r) (lineCount r ∷ (1101 ∷ drop 2 r)))
 data-is r e = ap ended (data-lines r (ap (λ k. eqb k 1002) e)) ∙ ap (λ k. ended (laid (dataPlan r) (lineCount r ∷ (kindShown k ∷ drop 2 r)))) e
 
-pub cards-are : (r : List ℕ) → (word r 2 ≡ 1002 → ⊥)
-    → ended (linesOf r) ≡ (fieldsOf (take 20 (lineCount r ∷ (kindShown (word r 2) ∷ drop 2 r))) ++ (10 ∷ [])) ++ ended (cardLines (lineCount r - 1) (drop 40 r))
+pub cards-are : (r : List ℕ) (lines kind cards : ℕ) → (word r 2 ≡ 1002 → ⊥) → lines ≡ lineCount r → kind ≡ kindShown (word r 2) → cards ≡ lineCount r - 1
+    → ended (linesOf r) ≡ (fieldsOf (take 20 (lines ∷ (kind ∷ drop 2 r))) ++ (10 ∷ [])) ++ ended (cardLines cards (drop 40 r))
 unfolding ended
-cards-are r h =
-    ap ended (cards-lines r (ne-eqb (word r 2) 1002 h))
-    ∙ sym (append-assoc (fieldsOf (take 20 (shownWords r))) (10 ∷ []) (ended (cardLines (lineCount r - 1) (drop 40 r))))
+cards-are r lines kind cards h l k n =
+    rw (l, k, n)
+    (ap ended (cards-lines r (ne-eqb (word r 2) 1002 h))
+    ∙ sym (append-assoc (fieldsOf (take 20 (shownWords r))) (10 ∷ []) (ended (cardLines (lineCount r - 1) (drop 40 r)))))
 
 -- what a good record is by its kind
 pub record Cards (r : List ℕ) : Type 0 where

@@ -7,14 +7,14 @@ use units::Bytes;
 use units::Lines;
 use units::Words;
 ghost use mathlib.Core.Path.{_≡_};
-ghost use mathlib.Core.List.{_∷_};
 ghost use Prim.Native.Nat.{_^_, _≤_, _<_};
-ghost use lib.ListN.{length, drop};
-ghost use Rattle.words.specs.Words.{wordsOf};
+ghost use lib.ListN.{length};
+ghost use Rattle.words.specs.Words.{word, wordsOf};
 ghost use Rattle.words.specs.Writing.{Room, Put};
-ghost use Rattle.record.specs.Rules.{DataOk, RecordOk};
-ghost use Rattle.write_parts.specs.Laid.{laid, ended};
-ghost use Rattle.line_plan.specs.Plan.{dataPlan, kindShown};
+ghost use Rattle.record.specs.Lines.{lineCount};
+ghost use Rattle.record.specs.Rules.{RecordOk};
+ghost use Rattle.write_parts.specs.Laid.{ended};
+ghost use Rattle.line_plan.specs.Plan.{kindShown};
 ghost use Rattle.write_lines.specs.Lines.{linesOf};
 ghost use Rattle.write_lines.specs.Text.{textOf, toLines};
 ghost use Rattle.write_lines.specs.Cases.{linedOf};
@@ -30,18 +30,6 @@ pub enum Lined {
     Short(Bytes),
 }
 
-// Writes a Data record's lines.
-fn write_data(whole: &[u8], lines: u16, out: &mut [u8], at: Bytes) -> Bytes
-    requires { ⌜ DataOk (wordsOf (now whole)) × Room (now out) (at .0) (ended (laid (dataPlan (wordsOf (now whole))) (lines ∷ (1101 ∷ drop 2 (wordsOf (now whole)))))) ⌝ }
-    ensures { λ r. ⌜ Put (now (out .entry)) (at .0) (ended (laid (dataPlan (wordsOf (now (whole .entry)))) (lines ∷ (1101 ∷ drop 2 (wordsOf (now (whole .entry))))))) (now (out .exit)) (r .0) ⌝ }
-{
-    let lprol = units::words_said(words::word_at(whole, Words(12)));
-    let jpar = units::words_said(words::word_at(whole, Words(13)));
-    let mpar = units::words_said(words::word_at(whole, Words(14)));
-    let nrow = words::word_at(whole, Words(15));
-    write_parts::write_plan(whole, lines, lprol, jpar, mpar, nrow, out, at)
-}
-
 // The kind that a record's lines show.
 fn kind_shown(kind: u16) -> u16
     ensures { λ r. ⌜ r ≡ kindShown kind ⌝ }
@@ -55,20 +43,45 @@ fn kind_shown(kind: u16) -> u16
     1101
 }
 
+// A good record's line count, as its first field shows it.
+fn count_shown(whole: &[u8]) -> u16
+    requires { ⌜ RecordOk (wordsOf (now whole)) × (length (wordsOf (now whole)) ≤ 8000) ⌝ }
+    ensures { λ r. ⌜ r ≡ lineCount (wordsOf (now (whole .entry))) ⌝ }
+{
+    units::saying_lines(record::line_count(whole))
+}
+
+// Writes a Data record's lines.
+fn write_data(whole: &[u8], out: &mut [u8], at: Bytes) -> Bytes
+    requires { ⌜ RecordOk (wordsOf (now whole)) × (length (wordsOf (now whole)) ≤ 8000) × (word (wordsOf (now whole)) 2 ≡ 1002) × Room (now out) (at .0) (ended (linesOf (wordsOf (now whole)))) ⌝ }
+    ensures { λ r. ⌜ Put (now (out .entry)) (at .0) (ended (linesOf (wordsOf (now (whole .entry))))) (now (out .exit)) (r .0) ⌝ }
+{
+    let lines = count_shown(whole);
+    let counts = record::counts_of(whole);
+    write_parts::write_plan(whole, lines, counts, out, at)
+}
+
+// Writes a Catalogue's or a Header's lines.
+fn write_carded(whole: &[u8], out: &mut [u8], at: Bytes) -> Bytes
+    requires { ⌜ RecordOk (wordsOf (now whole)) × (length (wordsOf (now whole)) ≤ 8000) × (word (wordsOf (now whole)) 2 ≡ 1002 → ⊥) × Room (now out) (at .0) (ended (linesOf (wordsOf (now whole)))) ⌝ }
+    ensures { λ r. ⌜ Put (now (out .entry)) (at .0) (ended (linesOf (wordsOf (now (whole .entry))))) (now (out .exit)) (r .0) ⌝ }
+{
+    let lines = count_shown(whole);
+    let kind = kind_shown(words::word_at(whole, Words(1)));
+    let cards = units::lines_said(lines).0 - 1;
+    let to = write_parts::write_head(whole, lines, kind, Words(20), out, at);
+    write_parts::write_cards(whole, Words(40), Lines(cards), out, to)
+}
+
 // Writes a good record's lines.
 fn write_record(whole: &[u8], out: &mut [u8], at: Bytes) -> Bytes
     requires { ⌜ RecordOk (wordsOf (now whole)) × (length (wordsOf (now whole)) ≤ 8000) × Room (now out) (at .0) (ended (linesOf (wordsOf (now whole)))) ⌝ }
     ensures { λ r. ⌜ Put (now (out .entry)) (at .0) (ended (linesOf (wordsOf (now (whole .entry))))) (now (out .exit)) (r .0) ⌝ }
 {
-    let count = record::line_count(whole).0;
-    let lines = units::saying_lines(Lines(count));
-    let kind = words::word_at(whole, Words(1));
-    if kind == record::DATA {
-        return write_data(whole, lines, out, at);
+    if words::word_at(whole, Words(1)) == record::DATA {
+        return write_data(whole, out, at);
     }
-    let cards = count - 1;
-    let to = write_parts::write_head(whole, lines, kind_shown(kind), Words(20), out, at);
-    write_parts::write_cards(whole, Words(40), Lines(cards), out, to)
+    write_carded(whole, out, at)
 }
 
 // The bytes of a good record's text: a field is six columns, a card its words' bytes, and each line has its end.

@@ -3,7 +3,7 @@ use mathlib.Core.Path.{_≡_, refl, sym, ap, _∙_}
 use mathlib.Core.Bool.{Bool, true, false}
 use mathlib.Core.List.{List, [], _∷_, _++_, append-assoc}
 use Prim.Native.Nat.{ℕ, zero, suc, _+_, _-_, _*_, _/_, _%_, _≤_, _<_, min}
-use native.Mathlib.Nat.{suc-mul}
+use native.Mathlib.Nat.{suc-mul, zero-add}
 use native.Mathlib.Numerals.{add-one}
 use native.Mathlib.Omega.{arith}
 use borrow.Author.Tests.{ltb-true, ltb-false}
@@ -17,8 +17,9 @@ use Rattle.words.proofs.Laws.{bytes-words, words-slice}
 use Rattle.field.specs.Writing.{fieldOf}
 use Rattle.field.proofs.Written.{length-fieldOf}
 use Rattle.units.specs.Units.{Line}
-use Rattle.line_plan.specs.Plan.{part, times, plan}
-use Rattle.line_plan.proofs.Plans.{part-turn, fieldsIn, fieldsIn-part}
+use Rattle.record.specs.declared.Counts.{Counts}
+use Rattle.line_plan.specs.Plan.{part, times, tables, plan}
+use Rattle.line_plan.proofs.Plans.{part-turn, fieldsIn, fieldsIn-part, fieldsIn-times}
 use Rattle.write_parts.specs.Laid.{fieldsOf, laid, cardLines, ended}
 
 pub length-fieldsOf : (ws : List ℕ) → length (fieldsOf ws) ≡ 6 * length ws
@@ -71,15 +72,13 @@ unfolding laid fieldsIn
 laid-append [] ms ws = refl
 laid-append (n ∷ ns) ms ws = ap (λ t. fieldsOf (take n ws) ∷ t) (laid-append ns ms (drop n ws) ∙ ap (λ l. laid ns (drop n ws) ++ laid ms l) (drop-drop (fieldsIn ns) n ws))
 
--- a part of n words, and what stands behind them
-behind : (n : ℕ) (ms ws : List ℕ) → ended (laid (part n ++ ms) ws) ≡ ended (laid (part n) ws) ++ ended (laid ms (drop n ws))
-behind n ms ws =
-    ap ended (laid-append (part n) ms ws)
-    ∙ ended-append (laid (part n) ws) (laid ms (drop (fieldsIn (part n)) ws))
-    ∙ ap (λ k. ended (laid (part n) ws) ++ ended (laid ms (drop k ws))) (fieldsIn-part n)
-
-part-then : (n : ℕ) (ms ws : List ℕ) (place : ℕ) → ended (laid (part n ++ ms) (drop place ws)) ≡ ended (laid (part n) (drop place ws)) ++ ended (laid ms (drop (place + n) ws))
-part-then n ms ws place = behind n ms (drop place ws) ∙ ap (λ l. ended (laid (part n) (drop place ws)) ++ ended (laid ms l)) (drop-drop n place ws)
+-- lines of n words in all, and what stands behind them
+behind : (ns ms ws : List ℕ) (place n : ℕ) → fieldsIn ns ≡ n
+    → ended (laid (ns ++ ms) (drop place ws)) ≡ ended (laid ns (drop place ws)) ++ ended (laid ms (drop (place + n) ws))
+behind ns ms ws place n e =
+    ap ended (laid-append ns ms (drop place ws))
+    ∙ ended-append (laid ns (drop place ws)) (laid ms (drop (fieldsIn ns) (drop place ws)))
+    ∙ ap (λ l. ended (laid ns (drop place ws)) ++ ended (laid ms l)) (ap (λ k. drop k (drop place ws)) e ∙ drop-drop n place ws)
 
 -- a row, and the rows behind it
 pub row-turn : (ws : List ℕ) (place n left : ℕ) → 0 < left
@@ -87,7 +86,7 @@ pub row-turn : (ws : List ℕ) (place n left : ℕ) → 0 < left
 unfolding times
 row-turn ws place n left h =
     let e : left ≡ suc (left - 1) = omega arith in
-    ap (λ k. ended (laid (times k (part n)) (drop place ws))) e ∙ part-then n (times (left - 1) (part n)) ws place
+    ap (λ k. ended (laid (times k (part n)) (drop place ws))) e ∙ behind (part n) (times (left - 1) (part n)) ws place n (fieldsIn-part n)
 
 pub no-rows : (ws : List ℕ) (n left : ℕ) → left ≡ 0 → ended (laid (times left (part n)) ws) ≡ []
 unfolding ended laid times
@@ -149,28 +148,24 @@ shown-drop a b n ws h =
     let f : 2 + (n - 2) ≡ n = omega arith in
     ap (λ k. drop k (a ∷ (b ∷ drop 2 ws))) e ∙ drop-drop (n - 2) 2 ws ∙ ap (λ k. drop k ws) f
 
--- a Data record's text, piece by piece
-module _ (a b : ℕ) (ws : List ℕ) (lprol jpar mpar nrow : ℕ) (least : 16 ≤ lprol) where
-  abbrev sh : List ℕ
-  sh = a ∷ (b ∷ drop 2 ws)
+-- the first line of a Data record's prologue, and the others
+pub prologue-text : (lines : ℕ) (ws : List ℕ) (lprol : ℕ) → 16 ≤ lprol → let shown = lines ∷ (1101 ∷ drop 2 ws) in
+    ended (laid (part lprol) shown) ≡ (fieldsOf (take (min lprol 20) shown) ++ (10 ∷ [])) ++ ended (laid (part (lprol - min lprol 20)) (drop (min lprol 20) ws))
+prologue-text lines ws lprol least = let shown = lines ∷ (1101 ∷ drop 2 ws) in
+    line-of shown lprol (omega arith)
+    ∙ ap (λ l. (fieldsOf (take (min lprol 20) shown) ++ (10 ∷ [])) ++ ended (laid (part (lprol - min lprol 20)) l)) (shown-drop lines 1101 (min lprol 20) ws (omega arith))
 
-  prologue : ended (laid (part lprol) sh) ≡ (fieldsOf (take (min lprol 20) sh) ++ (10 ∷ [])) ++ ended (laid (part (lprol - min lprol 20)) (drop (min lprol 20) ws))
-  prologue =
-      line-of sh lprol (omega arith)
-      ∙ ap (λ l. (fieldsOf (take (min lprol 20) sh) ++ (10 ∷ [])) ++ ended (laid (part (lprol - min lprol 20)) l)) (shown-drop a b (min lprol 20) ws (omega arith))
+module _ (ws : List ℕ) (c : Counts) where
+  -- its tables: the 1-D codes and values, the 2-D codes and rows
+  pub tables-text : ended (laid (tables c) (drop (c .lprol) ws))
+      ≡ ended (laid (times 2 (part (c .jpar))) (drop (c .lprol) ws)) ++ ended (laid (times (c .nrow + 1) (part (c .mpar))) (drop (c .lprol + 2 * c .jpar) ws))
+  tables-text = behind (times 2 (part (c .jpar))) (times (c .nrow + 1) (part (c .mpar))) ws (c .lprol) (2 * c .jpar) (fieldsIn-times 2 (c .jpar))
 
-  pub data-text : ended (laid (plan lprol jpar mpar nrow) (a ∷ (b ∷ drop 2 ws)))
-      ≡ (fieldsOf (take (min lprol 20) (a ∷ (b ∷ drop 2 ws))) ++ (10 ∷ []))
-      ++ (ended (laid (part (lprol - min lprol 20)) (drop (min lprol 20) ws))
-      ++ (ended (laid (part jpar) (drop lprol ws))
-      ++ (ended (laid (part jpar) (drop (lprol + jpar) ws)) ++ ended (laid (times (nrow + 1) (part mpar)) (drop (lprol + jpar + jpar) ws)))))
+  -- its text: the prologue, then the tables
+  pub plan-text : (lines : ℕ) → 16 ≤ c .lprol → let shown = lines ∷ (1101 ∷ drop 2 ws) in
+      ended (laid (plan c) shown) ≡ ended (laid (part (c .lprol)) shown) ++ ended (laid (tables c) (drop (c .lprol) ws))
   unfolding plan
-  data-text =
-      let rows = times (nrow + 1) (part mpar) in
-      let tail = ended (laid (part jpar ++ (part jpar ++ rows)) (drop lprol ws)) in
-      behind lprol (part jpar ++ (part jpar ++ rows)) sh
-      ∙ ap (λ l. ended (laid (part lprol) sh) ++ ended (laid (part jpar ++ (part jpar ++ rows)) l)) (shown-drop a b lprol ws (omega arith))
-      ∙ ap (λ t. t ++ tail) prologue
-      ∙ append-assoc (fieldsOf (take (min lprol 20) sh) ++ (10 ∷ [])) (ended (laid (part (lprol - min lprol 20)) (drop (min lprol 20) ws))) tail
-      ∙ ap (λ t. (fieldsOf (take (min lprol 20) sh) ++ (10 ∷ [])) ++ (ended (laid (part (lprol - min lprol 20)) (drop (min lprol 20) ws)) ++ t))
-      (part-then jpar (part jpar ++ rows) ws lprol ∙ ap (λ t. ended (laid (part jpar) (drop lprol ws)) ++ t) (part-then jpar rows ws (lprol + jpar)))
+  plan-text lines least = let shown = lines ∷ (1101 ∷ drop 2 ws) in
+      behind (part (c .lprol)) (tables c) shown 0 (c .lprol) (fieldsIn-part (c .lprol))
+      ∙ ap (λ l. ended (laid (part (c .lprol)) shown) ++ ended (laid (tables c) l))
+      (ap (λ k. drop k shown) (zero-add (c .lprol)) ∙ shown-drop lines 1101 (c .lprol) ws (omega arith))

@@ -1,4 +1,5 @@
 // Words laid out in lines of fields and in cards, written straight into the lent text.
+use record::Counts;
 use units::Bytes;
 use units::Lines;
 use units::Words;
@@ -9,8 +10,8 @@ ghost use lib.ListN.{length, take, drop};
 ghost use Rattle.units.specs.Units.{wordsOfCards};
 ghost use Rattle.words.specs.Words.{wordsOf};
 ghost use Rattle.words.specs.Writing.{Room, Put};
-ghost use Rattle.record.specs.Judging.{wordsNeeded};
-ghost use Rattle.line_plan.specs.Plan.{part, times, plan};
+ghost use Rattle.record.specs.Counts.{wordsNeeded};
+ghost use Rattle.line_plan.specs.Plan.{part, times, tables, plan};
 ghost use Rattle.write_parts.specs.Laid.{fieldsOf, laid, cardLines, ended};
 
 // Writes `count` words of a record from place `from` on as fields.
@@ -129,29 +130,37 @@ pub fn write_head(
     write_line(whole, Words(2), Words(count), out, Bytes(third))
 }
 
-// Writes the lines that four counts plan: the prologue, the 1-D codes and values, the 2-D codes and rows.
-pub fn write_plan(
-    whole: &[u8],
-    lines: u16,
-    lprol: Words,
-    jpar: Words,
-    mpar: Words,
-    nrow: u16,
-    out: &mut [u8],
-    at: Bytes,
-) -> Bytes
-    requires { ⌜ (16 ≤ lprol .0) × (wordsNeeded (lprol .0) (jpar .0) (mpar .0) nrow ≤ length (wordsOf (now whole))) × Room (now out) (at .0) (ended (laid (plan (lprol .0) (jpar .0) (mpar .0) nrow) (lines ∷ (1101 ∷ drop 2 (wordsOf (now whole)))))) ⌝ }
-    ensures { λ r. ⌜ Put (now (out .entry)) (at .0) (ended (laid (plan (lprol .0) (jpar .0) (mpar .0) nrow) (lines ∷ (1101 ∷ drop 2 (wordsOf (now (whole .entry))))))) (now (out .exit)) (r .0) ⌝ }
+// Writes the prologue of a Data record, `lprol` words in lines of 20.
+fn write_prologue(whole: &[u8], lines: u16, lprol: Words, out: &mut [u8], at: Bytes) -> Bytes
+    requires { ⌜ (16 ≤ lprol .0) × (lprol .0 ≤ length (wordsOf (now whole))) × Room (now out) (at .0) (ended (laid (part (lprol .0)) (lines ∷ (1101 ∷ drop 2 (wordsOf (now whole)))))) ⌝ }
+    ensures { λ r. ⌜ Put (now (out .entry)) (at .0) (ended (laid (part (lprol .0)) (lines ∷ (1101 ∷ drop 2 (wordsOf (now (whole .entry))))))) (now (out .exit)) (r .0) ⌝ }
 {
     let first = line_plan::on_line(lprol);
-    let codes = lprol.0;
-    let values = codes + jpar.0;
-    let table = values + jpar.0;
-    let more = codes - first.0;
-    let rows = nrow as usize + 1;
+    let more = lprol.0 - first.0;
     let to = write_head(whole, lines, 1101, first, out, at);
-    let to = write_part(whole, first, Words(more), out, to);
-    let to = write_part(whole, lprol, jpar, out, to);
-    let to = write_part(whole, Words(values), jpar, out, to);
-    write_rows(whole, Words(table), mpar, rows, out, to)
+    write_part(whole, first, Words(more), out, to)
+}
+
+// Writes the tables of a Data record: the 1-D codes and values, the 2-D codes and rows.
+fn write_tables(whole: &[u8], c: Counts, out: &mut [u8], at: Bytes) -> Bytes
+    requires { ⌜ (wordsNeeded c ≤ length (wordsOf (now whole))) × Room (now out) (at .0) (ended (laid (tables c) (drop (c .lprol) (wordsOf (now whole))))) ⌝ }
+    ensures { λ r. ⌜ Put (now (out .entry)) (at .0) (ended (laid (tables c) (drop (c .lprol) (wordsOf (now (whole .entry)))))) (now (out .exit)) (r .0) ⌝ }
+{
+    let codes = c.lprol as usize;
+    let single = c.jpar as usize;
+    let across = c.mpar as usize;
+    let rows = c.nrow as usize + 1;
+    let table = codes + 2 * single;
+    let to = write_rows(whole, Words(codes), Words(single), 2, out, at);
+    write_rows(whole, Words(table), Words(across), rows, out, to)
+}
+
+// Writes the lines that the counts plan: the prologue, then the tables.
+pub fn write_plan(whole: &[u8], lines: u16, c: Counts, out: &mut [u8], at: Bytes) -> Bytes
+    requires { ⌜ (16 ≤ c .lprol) × (wordsNeeded c ≤ length (wordsOf (now whole))) × Room (now out) (at .0) (ended (laid (plan c) (lines ∷ (1101 ∷ drop 2 (wordsOf (now whole)))))) ⌝ }
+    ensures { λ r. ⌜ Put (now (out .entry)) (at .0) (ended (laid (plan c) (lines ∷ (1101 ∷ drop 2 (wordsOf (now (whole .entry))))))) (now (out .exit)) (r .0) ⌝ }
+{
+    let lprol = c.lprol as usize;
+    let to = write_prologue(whole, lines, Words(lprol), out, at);
+    write_tables(whole, c, out, to)
 }

@@ -1,4 +1,4 @@
-use Rattle.record.specs.Judging.{underLeast}
+use Rattle.record.specs.Counts.{underLeast}
 use borrow.Author.Tests.{lt-ltb, le-ltb}
 use Rattle.record.proofs.under.Statement.{statement}
 use Rattle.record.proofs.under.Tie as tie
