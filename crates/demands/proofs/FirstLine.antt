@@ -19,7 +19,7 @@ use Rattle.record.proofs.FourCounts.{ok-range}
 use Rattle.line_plan.specs.Plan.{plan, dataPlan, kindShown}
 use Rattle.units.specs.Units.{Line}
 use Rattle.write_lines.proofs.Sizes.{is-cards, data-count}
-use Rattle.read_first_line.specs.FirstLine.{card, fields, gives, cardsLine, countsIn, dataRoom, planLine, catalogueLine, headerFields, headerLine, countFields, prologueFields, dataLine, kindLine, firstLine}
+use Rattle.read_first_line.specs.FirstLine.{card, fields, gives, cards, counts, countsIn, catalogueFields, headerFields, countFields, prologueFields, dataFields, kindFields, firstFields, cardsRoom, dataRoom, headLine, firstLine}
 use Rattle.read_line.specs.Lines.{inState}
 use Rattle.read_text.specs.Spelled.{Blanks, SpellsAll, CardsSpelled}
 use Rattle.demands.proofs.Back.{blank-back, first-line, numbers-back, zeros-back}
@@ -77,8 +77,8 @@ module _ (num held a b : ℕ) (ws : List ℕ) where
 
       -- z of its fields behind the first two may be free
       cards-line : (kind shows z : ℕ) → b ≡ kind → z ≤ 38 → Zeros (drop z (take 38 ws))
-          → cardsLine num held kind (count ∷ (shows ∷ take z ws)) ≡ gives (take 40 it) (replicate (count - 1) card)
-      unfolding cardsLine
+          → headLine num held (cards kind (count ∷ (shows ∷ take z ws))) ≡ gives (take 40 it) (replicate (count - 1) card)
+      unfolding cardsRoom
       cards-line kind shows z e k s =
           let w = whole in
           let g = many in
@@ -93,7 +93,7 @@ module _ (num held a b : ℕ) (ws : List ℕ) where
         CardsGiven = inState num held [] l ≡ gives (take 40 it) (replicate (count - 1) card)
 
         pub catalogue-given : b ≡ 2001 → CardsSpelled 12 it l ls → CardsGiven
-        unfolding firstLine kindLine catalogueLine
+        unfolding firstLine firstFields kindFields catalogueFields
         catalogue-given e s =
             let kind : kindShown b ≡ 2101 = ap (λ k. kindShown k) e in
             let spells : SpellsAll l 0 (count ∷ (2101 ∷ take 10 ws)) = rw kind at (s .free) in
@@ -103,7 +103,7 @@ module _ (num held a b : ℕ) (ws : List ℕ) where
             (cards-line 2001 2101 10 e (omega arith) (is-catalogue it h e .zeros))
 
         pub header-given : b ≡ 3002 → CardsSpelled 15 it l ls → CardsGiven
-        unfolding firstLine kindLine headerLine headerFields
+        unfolding firstLine firstFields kindFields headerFields
         header-given e s =
             let kind : kindShown b ≡ 3101 = ap (λ k. kindShown k) e in
             let spells : SpellsAll l 0 (count ∷ (3101 ∷ take 13 ws)) = rw kind at (s .free) in
@@ -145,8 +145,8 @@ module _ (num held a b : ℕ) (ws : List ℕ) where
           ap (λ c. if ltb (inRange c) 4 then refused (answer 27 num (columnOf (12 + inRange c)) 0) else passed (count ∷ (1101 ∷ take 14 ws))) (counts-at 14 (omega arith))
           ∙ simp (ok-range (countsOf it) (d .counts))
 
-      plan-line : planLine num held front ≡ gives (take (suc (suc q)) it) (map fields (drop 1 (dataPlan it)))
-      unfolding planLine dataRoom
+      plan-line : headLine num held (counts front) ≡ gives (take (suc (suc q)) it) (map fields (drop 1 (dataPlan it)))
+      unfolding dataRoom
       plan-line =
           let n = data-count it (ap (λ k. eqb k 1002) kind) in
           ap (λ c. onward (dataRoom num held count c) (λ _. gives (wordsNeeded c ∷ (1002 ∷ take q ws)) (map fields (drop 1 (plan c))))) (counts-at q long)
@@ -162,7 +162,7 @@ module _ (num held a b : ℕ) (ws : List ℕ) where
 
       -- it gives its words, and the other lines of the plan are still to come
       pub data-given : (l : Line) → SpellsAll l 0 front → Blanks (drop (6 * suc (suc q)) l) → inState num held [] l ≡ gives (take (suc (suc q)) it) (map fields (drop 1 (dataPlan it)))
-      unfolding firstLine kindLine dataLine countFields prologueFields
+      unfolding firstLine firstFields kindFields dataFields countFields prologueFields
       data-given line spells blank =
           let g = long in
           let l : length front ≡ suc (suc q) = omega (arith, length-take-le q ws room) in

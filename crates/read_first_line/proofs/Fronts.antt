@@ -1,46 +1,105 @@
 -- What is known of a Data record's first fields once they are accepted.
-use mathlib.Core.Path.{_≡_, sym, _∙_}
+use mathlib.Core.Path.{_≡_, refl, sym, ap, _∙_}
+use mathlib.Core.Bool.{Bool, true, false}
 use mathlib.Core.List.{List, _++_}
 use Prim.Native.Nat.{ℕ, _+_, _-_, _*_, _≤_, _<_, min}
 use native.Mathlib.Omega.{arith}
-use borrow.Author.Tests.{ltb-false}
-use lib.Dec.{ltb}
-use lib.ListN.{length, getD, take, List·getD-append}
-use lib.Seq.{getD-take, length-take-le}
+use borrow.Author.Tests.{ltb-true, ltb-false}
+use lib.Dec.{ltb, eqb}
+use lib.ListN.{length, getD, take, length-take, List·getD-append, List·getD-eq-default}
+use lib.Seq.{getD-take}
+use Rattle.units.specs.Choice.{if_then_else_}
 use Rattle.units.specs.Answers.{answer, Verdict, passed, refused, onward}
 use Rattle.units.proofs.Verdicts.{never-passed, else-passed}
+use Rattle.units.proofs.Choosing.{both-ways}
 use Rattle.words.specs.Words.{word}
 use Rattle.record.specs.Counts.{countsOf, inRange}
 use Rattle.record.proofs.FourCounts.{range-ok}
-use Rattle.read_columns.specs.Columns.{columnOf, numbers, blankAfter}
-use Rattle.read_first_line.specs.FirstLine.{countsIn, countFields, prologueFields}
+use Rattle.read_columns.specs.Columns.{columnOf, numbers, zeros, blankAfter}
+use Rattle.read_first_line.specs.FirstLine.{Head, cards, counts, countsIn, countFields, catalogueFields, headerFields, prologueFields, dataFields, kindFields, firstFields}
 
--- LPROL is at least 16
-in-range : (num : ℕ) (r x : List ℕ) → countsIn num r ≡ passed x → 16 ≤ getD x 12 0
+-- LPROL, word 13, is at least 16: so it is there
+abbrev LprolLeast : List ℕ → Type 0
+LprolLeast ws = 16 ≤ getD ws 12 0
+
+long-enough : (ws : List ℕ) → LprolLeast ws → 12 < length ws
+long-enough ws h = by (ltb 12 (length ws)) refl
+  where
+    by : (t : Bool) → ltb 12 (length ws) ≡ t → 12 < length ws
+    by true e = ltb-true 12 (length ws) e
+    by false e = absurd (omega (arith, List·getD-eq-default ws 0 {n = 12} (ltb-false 12 (length ws) e)))
+
+-- it stands in front of what is taken away, and of what follows
+pub least-take : (m : ℕ) (row : List ℕ) → LprolLeast (take m row) → LprolLeast row
+least-take m row h = let l = long-enough (take m row) h in omega (arith, getD-take m row 12 0 (omega (arith, length-take m row)))
+
+-- ---- by the fields
+
+in-range : (num : ℕ) (r x : List ℕ) → countsIn num r ≡ passed x → LprolLeast x
 unfolding countsIn
 in-range num r x e =
     let a = else-passed (ltb (inRange (countsOf r)) 4) (answer 27 num (columnOf (12 + inRange (countsOf r))) 0) (passed r) x e in
     let same : r ≡ x = cc in
     rw (sym same) (range-ok (countsOf r) (ltb-false _ _ (a .0)) .lprol .least-is)
 
-pub counted : (num : ℕ) (l head x : List ℕ) → passed x ≡ countFields num l head → 16 ≤ getD x 12 0
+pub counted : (num : ℕ) (l first x : List ℕ) → passed x ≡ countFields num l first → LprolLeast x
 unfolding countFields
-counted num l head x e = by (numbers num l 12 4) e
+counted num l first x e = by (numbers num l 12 4) e
   where
-    by : (v : Verdict (List ℕ)) → passed x ≡ onward v (λ counts. countsIn num (head ++ counts)) → 16 ≤ getD x 12 0
-    by (passed ws) g = in-range num (head ++ ws) x (sym g)
+    by : (v : Verdict (List ℕ)) → passed x ≡ onward v (λ more. countsIn num (first ++ more)) → LprolLeast x
+    by (passed ws) g = in-range num (first ++ ws) x (sym g)
     by (refused r) g = absurd (never-passed (sym g))
 
--- the fields behind the counts leave those before them as they are
-front : {A : Type 0} (r x : List ℕ) (v : Verdict (List ℕ)) (u : Verdict A) → passed x ≡ onward v (λ more. onward u (λ _. passed (r ++ more))) → 12 < length r → getD x 12 0 ≡ getD r 12 0
-front r x (passed more) (passed y) e h = let same : x ≡ r ++ more = cc in rw same (List·getD-append r more 0 12 h)
-front r x (passed more) (refused a) e h = absurd (never-passed (sym e))
-front r x (refused a) u e h = absurd (never-passed (sym e))
+-- a verdict that gives a Data record gives LPROL in range
+abbrev Least : Verdict Head → Type 0
+Least v = (ws : List ℕ) → passed (counts ws) ≡ v → LprolLeast ws
 
--- so that LPROL stands where it stood
-pub lprol-stays : (num : ℕ) (l row after : List ℕ) (used : ℕ) → passed (take used after) ≡ prologueFields num l (take 16 row) → 16 ≤ used → 16 ≤ length row → getD after 12 0 ≡ getD row 12 0
-unfolding prologueFields
-lprol-stays num l row after used e low long =
-    sym (getD-take used after 12 0 (omega arith))
-    ∙ front (take 16 row) (take used after) (numbers num l 16 (min (word (take 16 row) 13) 20 - 16)) (blankAfter num l (6 * min (word (take 16 row) 13) 20)) e (omega (arith, length-take-le 16 row long))
-    ∙ getD-take 16 row 12 0 (omega arith)
+module _ (num : ℕ) (l : List ℕ) where
+  prologue-least : (r : List ℕ) → LprolLeast r → Least (prologueFields num l r)
+  unfolding prologueFields
+  prologue-least r h ws e = by (numbers num l 16 (min (word r 13) 20 - 16)) (blankAfter num l (6 * min (word r 13) 20)) e
+    where
+      by : (v : Verdict (List ℕ)) (u : Verdict (Unit {0})) → passed (counts ws) ≡ onward v (λ more. onward u (λ _. passed (counts (r ++ more)))) → LprolLeast ws
+      by (passed more) (passed y) g = let same : ws ≡ r ++ more = cc in rw (same, List·getD-append r more 0 12 (long-enough r h)) h
+      by (passed more) (refused a) g = absurd (never-passed (sym g))
+      by (refused a) u g = absurd (never-passed (sym g))
+
+  data-least : (first : List ℕ) → Least (dataFields num l first)
+  unfolding dataFields
+  data-least first ws e = by (countFields num l first) refl e
+    where
+      by : (v : Verdict (List ℕ)) → countFields num l first ≡ v → passed (counts ws) ≡ onward v (λ r. prologueFields num l r) → LprolLeast ws
+      by (passed r) f g = prologue-least r (counted num l first r (sym f)) ws g
+      by (refused a) f g = absurd (never-passed (sym g))
+
+  -- the others give none
+  no-counts : {A : Type 0} (kind : ℕ) (x : A → List ℕ) (v : Verdict A) → Least (onward v (λ y. passed (cards kind (x y))))
+  no-counts kind x (passed y) ws e = let z : _≡_ {A = ℕ} 0 1 = cc in absurd (omega arith)
+  no-counts kind x (refused a) ws e = absurd (never-passed (sym e))
+
+  catalogue-least : (first : List ℕ) → Least (catalogueFields num l first)
+  unfolding catalogueFields
+  catalogue-least first = no-counts 2001 (λ _. first) (zeros num l 12 8)
+
+  header-least : (first : List ℕ) → Least (headerFields num l first)
+  unfolding headerFields
+  header-least first = by (numbers num l 12 3)
+    where
+      by : (v : Verdict (List ℕ)) → Least (onward v (λ more. onward (zeros num l 15 5) (λ _. passed (cards 3002 (first ++ more)))))
+      by (passed more) = no-counts 3002 (λ _. first ++ more) (zeros num l 15 5)
+      by (refused a) = λ ws e. absurd (never-passed (sym e))
+
+  kind-least : (first : List ℕ) → Least (kindFields num l first)
+  unfolding kindFields
+  kind-least first =
+      both-ways Least (eqb (word first 2) 2101) (catalogueFields num l first) _ (catalogue-least first)
+      (both-ways Least (eqb (word first 2) 3101) (headerFields num l first) _ (header-least first)
+      (both-ways Least (eqb (word first 2) 1101) (dataFields num l first) (refused (answer 23 num 7 0)) (data-least first) (λ ws e. absurd (never-passed (sym e)))))
+
+  pub first-least : Least (firstFields num l)
+  unfolding firstFields
+  first-least = by (numbers num l 0 12)
+    where
+      by : (v : Verdict (List ℕ)) → Least (onward v (λ first. kindFields num l first))
+      by (passed first) = kind-least first
+      by (refused a) = λ ws e. absurd (never-passed (sym e))

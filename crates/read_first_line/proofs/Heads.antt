@@ -6,11 +6,11 @@ use Prim.Native.Nat.{ℕ, zero, suc, _+_, _-_, _*_, _≤_, _<_, min}
 use native.Mathlib.Omega.{arith}
 use borrow.Author.Tests.{ltb-false}
 use lib.Dec.{ltb, eqb}
-use lib.ListN.{length, getD, take, drop, replicate, length-append, length-replicate}
+use lib.ListN.{length, getD, take, drop, replicate, length-append, length-replicate, List·getD-append}
 use lib.Seq.{sets, slice, getD-take, length-take-le, length-slice}
 use Rattle.units.specs.Choice.{if_then_else_}
-use Rattle.units.specs.Answers.{answer, passed, refused, onward}
-use Rattle.units.proofs.Verdicts.{else-passed}
+use Rattle.units.specs.Answers.{answer, Verdict, passed, refused, onward}
+use Rattle.units.proofs.Verdicts.{never-passed, else-passed, or-off}
 use Rattle.record.specs.declared.Counts.{Counts}
 use Rattle.words.specs.Words.{bytesOf}
 use Rattle.words.proofs.Laws.{bytes-append, length-bytesOf}
@@ -19,7 +19,7 @@ use Rattle.record.specs.Counts.{countsOf, wordsNeeded, inRange}
 use Rattle.record.proofs.FourCounts.{counts-first, counts-take}
 use Rattle.line_plan.specs.Plan.{plan}
 use Rattle.read_columns.specs.Columns.{columnOf, numbers, blankAfter}
-use Rattle.read_first_line.specs.FirstLine.{card, fields, gives, cardsLine, countsIn, dataRoom, planLine, prologueFields, catalogueLine, headerLine, dataLine, kindLine}
+use Rattle.read_first_line.specs.FirstLine.{card, fields, gives, Head, counts, countsIn, catalogueFields, headerFields, prologueFields, dataFields, kindFields, cardsRoom, dataRoom, cardsGiven, dataGiven}
 use Rattle.read_first_line.specs.State.{put}
 
 -- words that are put one after the other
@@ -54,20 +54,12 @@ module _ (row : List ℕ) (used : ℕ) (h : used ≤ length row) where
   pub head-length : (total kind : ℕ) → 2 ≤ used → length (total ∷ (kind ∷ slice 2 used row)) ≡ used
   head-length total kind low = omega (arith, length-slice 2 used row h)
 
-  pub cards-is : (num held kind : ℕ) → 0 < used → let n = getD row 0 0 in
-      cardsLine num held kind (take used row) ≡
-      (if ltb n 1 || ltb 199 n then refused (answer 24 num 1 0)
-      else if ltb 7998 (held + 40 * n) then refused (answer 28 num 1 0)
-      else gives (40 * n ∷ (kind ∷ slice 2 used row) ++ replicate (40 - used) 0) (replicate (n - 1) card))
-  unfolding cardsLine
-  cards-is num held kind low = rw (getD-take used row 0 0 low, length-take-le used row h)
+  -- what a head gives, over the row
+  pub cards-are : (kind : ℕ) → 0 < used → cardsGiven kind (take used row) ≡ gives (40 * getD row 0 0 ∷ (kind ∷ slice 2 used row) ++ replicate (40 - used) 0) (replicate (getD row 0 0 - 1) card)
+  cards-are kind low = rw (getD-take used row 0 0 low, length-take-le used row h)
 
-  pub plan-is : (num held : ℕ) → 16 ≤ used → let c = countsOf row in
-      planLine num held (take used row) ≡ onward (dataRoom num held (getD row 0 0) c) (λ _. gives (wordsNeeded c ∷ (1002 ∷ slice 2 used row)) (map fields (drop 1 (plan c))))
-  unfolding planLine
-  plan-is num held low =
-      rw (getD-take used row 0 0 (omega arith))
-      (ap (λ c. onward (dataRoom num held (getD row 0 0) c) (λ _. gives (wordsNeeded c ∷ (1002 ∷ slice 2 used row)) (map fields (drop 1 (plan c))))) (counts-take used row low))
+  pub data-is : 16 ≤ used → let c = countsOf row in dataGiven (take used row) ≡ gives (wordsNeeded c ∷ (1002 ∷ slice 2 used row)) (map fields (drop 1 (plan c)))
+  data-is low = ap (λ c. gives (wordsNeeded c ∷ (1002 ∷ slice 2 used row)) (map fields (drop 1 (plan c)))) (counts-take used row low)
 
 -- where there is room for a Data record, it is small
 pub room-most : (num held lines : ℕ) (c : Counts) → passed tt ≡ dataRoom num held lines c → held + wordsNeeded c ≤ 7998
@@ -80,16 +72,44 @@ unfolding countsIn
 counts-is num row =
     ap (λ c. if ltb (inRange c) 4 then refused (answer 27 num (columnOf (12 + inRange c)) 0) else passed (take 16 row)) (counts-first row)
 
-pub prologue-is : (num : ℕ) (l row : List ℕ) (used : ℕ) → used ≡ min (getD row 12 0) 20 →
-    prologueFields num l (take 16 row) ≡ onward (numbers num l 16 (used - 16)) (λ more. onward (blankAfter num l (6 * used)) (λ _. passed (take 16 row ++ more)))
-unfolding prologueFields
-prologue-is num l row used e = rw (e, getD-take 16 row 12 0 (omega arith))
+-- where there is room for cards, their count is small
+pub cards-most : (num held lines : ℕ) → passed tt ≡ cardsRoom num held lines → (1 ≤ lines) × (lines ≤ 199)
+unfolding cardsRoom
+cards-most num held lines e =
+    let o = or-off (ltb lines 1) _ (else-passed (ltb lines 1 || ltb 199 lines) (answer 24 num 1 0) _ tt (sym e) .0) in
+    (ltb-false lines 1 (o .0), ltb-false 199 lines (o .1))
 
-pub kind-is : (num held : ℕ) (l row : List ℕ) →
-    kindLine num held l (take 12 row) ≡
-    (if eqb (getD row 1 0) 2101 then catalogueLine num held l (take 12 row)
-    else if eqb (getD row 1 0) 3101 then headerLine num held l (take 12 row)
-    else if eqb (getD row 1 0) 1101 then dataLine num held l (take 12 row)
+-- the fields behind the counts, read into the row: LPROL stands where it stood
+pub prologue-on : (num : ℕ) (l row row′ : List ℕ) (v : Verdict Head) → let used = min (getD row 12 0) 20 in 16 ≤ getD row 12 0 → 16 ≤ length row
+    → passed (take (16 + (used - 16)) row′) ≡ onward (numbers num l 16 (used - 16)) (λ ws. passed (take 16 row ++ ws))
+    → v ≡ onward (blankAfter num l (6 * min (getD row′ 12 0) 20)) (λ _. passed (counts (take (min (getD row′ 12 0) 20) row′)))
+    → v ≡ prologueFields num l (take 16 row)
+unfolding prologueFields
+prologue-on num l row row′ v low long read said =
+    let lprol = getD row 12 0 in
+    let used = min lprol 20 in
+    let e : 16 + (used - 16) ≡ used = omega arith in
+    rw (getD-take 16 row 12 0 (omega arith)) (by (numbers num l 16 (used - 16)) (rw e at read))
+  where
+    by : (w : Verdict (List ℕ)) → passed (take (min (getD row 12 0) 20) row′) ≡ onward w (λ ws. passed (take 16 row ++ ws))
+        → v ≡ onward w (λ more. onward (blankAfter num l (6 * min (getD row 12 0) 20)) (λ _. passed (counts (take 16 row ++ more))))
+    by (passed more) g =
+        let same : take (min (getD row 12 0) 20) row′ ≡ take 16 row ++ more = cc in
+        let stays : getD row′ 12 0 ≡ getD row 12 0 =
+        sym (getD-take (min (getD row 12 0) 20) row′ 12 0 (omega arith)) ∙ ap (λ l. getD l 12 0) same ∙ List·getD-append (take 16 row) more 0 12 (omega (arith, length-take-le 16 row long)) ∙ getD-take 16 row 12 0 (omega arith) in
+        said ∙ rw (stays, same)
+    by (refused a) g = absurd (never-passed (sym g))
+
+pub prologue-is : (num : ℕ) (l row : List ℕ) → let used = min (getD row 12 0) 20 in
+    prologueFields num l (take 16 row) ≡ onward (numbers num l 16 (used - 16)) (λ more. onward (blankAfter num l (6 * used)) (λ _. passed (counts (take 16 row ++ more))))
+unfolding prologueFields
+prologue-is num l row = rw (getD-take 16 row 12 0 (omega arith))
+
+pub kind-is : (num : ℕ) (l row : List ℕ) →
+    kindFields num l (take 12 row) ≡
+    (if eqb (getD row 1 0) 2101 then catalogueFields num l (take 12 row)
+    else if eqb (getD row 1 0) 3101 then headerFields num l (take 12 row)
+    else if eqb (getD row 1 0) 1101 then dataFields num l (take 12 row)
     else refused (answer 23 num 7 0))
-unfolding kindLine
-kind-is num held l row = rw (getD-take 12 row 1 0 (omega arith))
+unfolding kindFields
+kind-is num l row = rw (getD-take 12 row 1 0 (omega arith))

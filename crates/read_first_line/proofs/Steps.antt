@@ -14,25 +14,17 @@ use Rattle.read_first_line.specs.State.{Stand, Stepped}
 use Rattle.read_first_line.specs.declared.Step.{Step}
 use Rattle.read_first_line.specs.declared.Step.the-variants.{Refused}
 
--- the first refusal stands, and ends the line
-pub stops : {held : ℕ} {b b′ : List ℕ} (v : Verdict Read) (f : Flaw) → refused (flawOf f) ≡ v → Stepped held b v b′ (Refused f)
-stops v f e = record { is = rw (sym e); near = tt }
-
--- a step for what is the same verdict
-pub same-step : {held : ℕ} {b b′ : List ℕ} {r : Step} (v w : Verdict Read) → v ≡ w → Stepped held b v b′ r → Stepped held b w b′ r
-same-step v w e s = rw (sym e) s
-
 -- what a check says, by what it returned
 pub told : {A : Type 0} (x : A) {r r′ : Checked} {v : Verdict A} → r ≡ r′ → checkedOf x r ≡ v → checkedOf x r′ ≡ v
 told x e said = ap (checkedOf x) (sym e) ∙ said
 
--- a check comes first: where it refuses, the line ends, and else it goes on
-module _ {A : Type 0} {held : ℕ} {b b′ : List ℕ} (v : Verdict A) (next : A → Verdict Read) (x : A) {r : Checked} where
-  pub flaw-ends : {f : Flaw} → r ≡ Flawed f → checkedOf x r ≡ v → Stepped held b (onward v next) b′ (Refused f)
-  flaw-ends e said = record { is = rw (sym (told x e said)); near = tt }
+-- a check comes first: where it refuses, that is the verdict, and else what follows
+module _ {A B : Type 0} (v : Verdict A) (next : A → Verdict B) (x : A) {r : Checked} where
+  pub flaw-stops : {f : Flaw} → r ≡ Flawed f → checkedOf x r ≡ v → refused (flawOf f) ≡ onward v next
+  flaw-stops e said = rw (sym (told x e said))
 
-  pub good-goes : {s : Step} → r ≡ Good → checkedOf x r ≡ v → Stepped held b (next x) b′ s → Stepped held b (onward v next) b′ s
-  good-goes e said s = rw (sym (told x e said)) s
+  pub good-passes : {w : Verdict B} → r ≡ Good → checkedOf x r ≡ v → w ≡ next x → w ≡ onward v next
+  good-passes e said s = rw (sym (told x e said)) s
 
 -- a check that only passes or refuses
 pub checked-on : {A : Type 0} (x : A) (r : Checked) (v : Verdict (Unit {0})) → checkedOf tt r ≡ v → checkedOf x r ≡ onward v (λ _. passed x)
@@ -55,6 +47,24 @@ module _ {B : Type 0} (head : List ℕ) (next : List ℕ → Verdict B) where
 
     pub good-read : r ≡ Good → checkedOf row r ≡ onward v (λ ws. passed (head ++ ws)) → next row ≡ onward v (λ ws. next (head ++ ws))
     good-read e said = read-go v row (told row e said)
+
+-- ---- a step
+
+-- the first refusal stands, and ends the line
+pub stops : {held : ℕ} {b b′ : List ℕ} (v : Verdict Read) (f : Flaw) → refused (flawOf f) ≡ v → Stepped held b v b′ (Refused f)
+stops v f e = record { is = rw (sym e) }
+
+-- a step for what is the same verdict
+pub same-step : {held : ℕ} {b b′ : List ℕ} {r : Step} (v w : Verdict Read) → v ≡ w → Stepped held b v b′ r → Stepped held b w b′ r
+same-step v w e s = rw (sym e) s
+
+-- a check comes first: where it refuses, the line ends, and else it goes on
+module _ {A : Type 0} {held : ℕ} {b b′ : List ℕ} (v : Verdict A) (next : A → Verdict Read) (x : A) {r : Checked} where
+  pub flaw-ends : {f : Flaw} → r ≡ Flawed f → checkedOf x r ≡ v → Stepped held b (onward v next) b′ (Refused f)
+  flaw-ends {f} e said = stops (onward v next) f (flaw-stops v next x e said)
+
+  pub good-goes : {s : Step} → r ≡ Good → checkedOf x r ≡ v → Stepped held b (next x) b′ s → Stepped held b (onward v next) b′ s
+  good-goes e said s = rw (sym (told x e said)) s
 
 -- where a line is accepted: what is to come, the words so far and the block
 pub passed-stand : {rest rest′ : List Shape} {held held′ : ℕ} {b b′ : List ℕ} → rest ≡ rest′ → held ≡ held′ → b ≡ b′ →

@@ -1,18 +1,20 @@
 -- Where the reading of a text stands, as the code keeps it.
-use Prim.Native.Nat.{ℕ, _+_, _≤_}
+use Prim.Native.Nat.{ℕ, _+_, min}
 use mathlib.Core.Path.{_≡_}
 use mathlib.Core.List.{List, _++_, map}
-use lib.ListN.{length, replicate}
+use lib.ListN.{length, getD, take, replicate}
 use lib.Seq.{sets}
 use Rattle.units.specs.Units.{bytesOfWords}
 use Rattle.units.specs.Answers.{Verdict, passed, refused, onward}
 use Rattle.words.specs.Words.{bytesOf}
 use Rattle.line_plan.specs.Plan.{part, times}
 use Rattle.read_columns.specs.Cases.{flawOf}
-use Rattle.read_first_line.specs.FirstLine.{Shape, card, fields, Read}
+use Rattle.read_first_line.specs.FirstLine.{Shape, card, fields, Read, Head, cards, counts}
 use Rattle.read_first_line.specs.declared.Plan.{Plan}
 use Rattle.read_first_line.specs.declared.Step.{Step}
 use Rattle.read_first_line.specs.declared.Step.the-variants.{Next, Refused}
+use Rattle.read_first_line.specs.declared.Opening.{Opening}
+use Rattle.read_first_line.specs.declared.Opening.the-variants.{Catalogue, Header, Data, Flawed}
 
 -- the Data lines to come: the rest of the present part, then the 1-D parts and the 2-D rows not begun
 unfoldable pub linesLeft : Plan → List ℕ
@@ -41,12 +43,13 @@ abbrev pub standOf : List ℕ → Step → Verdict Stand
 standOf block (Next p held) = passed (record { rest = toCome p; words = held .0; block = block })
 standOf block (Refused f) = refused (flawOf f)
 
--- a line has at most 40 words
-abbrev pub Near : ℕ → Step → Type 0
-Near held (Next p n) = n .0 ≤ held + 40
-Near held (Refused f) = Unit {0}
-
--- what a step promises: what is read of the line, and that it is no more than a line
+-- what a step promises: what is read of the line
 pub record Stepped (held : ℕ) (before : List ℕ) (v : Verdict Read) (now : List ℕ) (r : Step) : Type 0 where
   pub is : standOf now r ≡ after held before v
-  pub near : Near held r
+
+-- the head of a record, where the fields of its first line stand in a row
+abbrev pub headOf : List ℕ → Opening → Verdict Head
+headOf row Catalogue = passed (cards 2001 (take 12 row))
+headOf row Header = passed (cards 3002 (take 15 row))
+headOf row Data = passed (counts (take (min (getD row 12 0) 20) row))
+headOf row (Flawed f) = refused (flawOf f)

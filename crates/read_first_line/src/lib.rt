@@ -6,15 +6,17 @@ use units::Lines;
 use units::Words;
 ghost use mathlib.Core.Path.{_≡_};
 ghost use mathlib.Core.List.{_∷_, _++_, map};
-ghost use Prim.Native.Nat.{_-_, _≤_, _<_, _^_, min};
+ghost use Prim.Native.Nat.{_-_, _≤_, _<_, min};
 ghost use lib.ListN.{length, getD, take, drop, replicate};
 ghost use lib.Seq.{slice};
-ghost use Rattle.units.specs.Answers.{onward};
+ghost use Rattle.units.specs.Units.{columnsOfFields};
+ghost use Rattle.units.specs.Answers.{passed, onward};
+ghost use Rattle.read_columns.specs.Columns.{blankAfter, zeros};
 ghost use Rattle.record.specs.Counts.{countsOf, wordsNeeded};
 ghost use Rattle.line_plan.specs.Plan.{plan};
 ghost use Rattle.read_columns.specs.Cases.{checkedOf};
-ghost use Rattle.read_first_line.specs.FirstLine.{card, fields, gives, countsIn, dataRoom, cardsLine, planLine, headerFields, countFields, prologueFields, catalogueLine, headerLine, dataLine, kindLine, firstLine};
-ghost use Rattle.read_first_line.specs.State.{toCome, Stepped, put};
+ghost use Rattle.read_first_line.specs.FirstLine.{card, fields, cards, counts, countsIn, countFields, catalogueFields, headerFields, prologueFields, dataFields, kindFields, firstFields, cardsRoom, dataRoom, cardsGiven, dataGiven, headLine, firstLine};
+ghost use Rattle.read_first_line.specs.State.{toCome, Stepped, put, headOf};
 
 // What is to come of a record: cards; or fields of the present part, then so many 1-D parts and so many 2-D rows.
 pub struct Plan {
@@ -46,61 +48,43 @@ pub fn cards_only(cards: Lines) -> Plan
     }
 }
 
-// Puts a record's first words: LTOT, its kind, and the fields of its first line from field 3 on.
-fn put_head(total: Words, kind: u16, used: Words, row: &[u16], block: &mut [u8], held: Words)
-    requires { ⌜ (total .0 < 65536) × (used .0 ≤ length (now row)) × (used .0 ≤ 20) × (held .0 < 2 ^ 23) ⌝ }
-    ensures { λ _. ⌜ now (block .exit) ≡ put (held .0) (now (block .entry)) (total .0 ∷ (kind ∷ slice 2 (used .0) (now (row .entry)))) ⌝ }
-{
-    let first = held.0 + 1;
-    let second = first + 1;
-    let third = second + 1;
-    read_store::store_word(units::saying_words(total), block, Words(first));
-    read_store::store_word(kind, block, Words(second));
-    read_store::store_words(row, Words(2), used, block, Words(third));
+// What the fields of a first line say: which kind of record begins; or why it is refused.
+pub enum Opening {
+    Catalogue,
+    Header,
+    Data,
+    Flawed(Flaw),
 }
 
-// A Catalogue or a Header: its line count, then room for its words.
-fn cards_line(
-    num: Lines,
-    held: Words,
-    kind: u16,
-    used: Words,
-    row: &[u16],
-    block: &mut [u8],
-) -> Step
-    requires { ⌜ (2 ≤ used .0) × (used .0 ≤ 20) × (length (now row) ≡ 20) × (held .0 < 2 ^ 22) ⌝ }
-    ensures { λ r. ⌜ Stepped (held .0) (now (block .entry)) (cardsLine (num .0) (held .0) kind (take (used .0) (now (row .entry)))) (now (block .exit)) r ⌝ }
+// A Catalogue's fields behind the first 12.
+fn catalogue_fields(num: Lines, line: &[u8], row: &[u16]) -> Opening
+    ensures { λ r. ⌜ headOf (now (row .entry)) r ≡ catalogueFields (num .0) (now (line .entry)) (take 12 (now (row .entry))) ⌝ }
 {
-    let lines = units::lines_said(row[0]);
-    if lines.0 < 1 {
-        return Step::Refused(Flaw::Count(num));
+    match read_columns::zero_fields(line, num, Words(12), Words(8)) {
+        Checked::Flawed(f) => Opening::Flawed(f),
+        Checked::Good => Opening::Catalogue,
     }
-    if 199 < lines.0 {
-        return Step::Refused(Flaw::Count(num));
-    }
-    let total = units::words_of_cards(lines);
-    let sum = held.0 + total.0;
-    if 7998 < sum {
-        return Step::Refused(Flaw::Much(num));
-    }
-    let cards = lines.0 - 1;
-    let behind = held.0 + 40;
-    put_cards_head(total, kind, used, row, block, held);
-    Step::Next(cards_only(Lines(cards)), Words(behind))
 }
 
-// Puts the 40 words of a Catalogue's or a Header's first line: what its fields do not give is zero.
-fn put_cards_head(total: Words, kind: u16, used: Words, row: &[u16], block: &mut [u8], held: Words)
-    requires { ⌜ (total .0 < 65536) × (2 ≤ used .0) × (used .0 ≤ 20) × (length (now row) ≡ 20) × (held .0 < 2 ^ 22) ⌝ }
-    ensures { λ _. ⌜ now (block .exit) ≡ put (held .0) (now (block .entry)) (total .0 ∷ (kind ∷ slice 2 (used .0) (now (row .entry))) ++ replicate (40 - used .0) 0) ⌝ }
+// A Header's fields behind the first 15.
+fn header_zeros(num: Lines, line: &[u8], row: &[u16]) -> Opening
+    ensures { λ r. ⌜ headOf (now (row .entry)) r ≡ onward (zeros (num .0) (now (line .entry)) 15 5) (λ _. passed (cards 3002 (take 15 (now (row .entry))))) ⌝ }
 {
-    let n = used.0;
-    let left = 40 - n;
-    let next = held.0 + 1 + n;
-    put_head(total, kind, used, row, block, held);
-    let at = units::bytes_of_words(Words(next));
-    let size = units::bytes_of_words(Words(left));
-    read_store::store_filling(0, size, block, at);
+    match read_columns::zero_fields(line, num, Words(15), Words(5)) {
+        Checked::Flawed(f) => Opening::Flawed(f),
+        Checked::Good => Opening::Header,
+    }
+}
+
+// A Header's fields behind the first 12.
+fn header_fields(num: Lines, line: &[u8], row: &mut [u16]) -> Opening
+    requires { ⌜ length (now row) ≡ 20 ⌝ }
+    ensures { λ r. ⌜ headOf (now (row .exit)) r ≡ headerFields (num .0) (now (line .entry)) (take 12 (now (row .entry))) ⌝ }
+{
+    match read_columns::read_numbers(line, num, Words(12), Words(3), row) {
+        Checked::Flawed(f) => Opening::Flawed(f),
+        Checked::Good => header_zeros(num, line, row),
+    }
 }
 
 // The counts among the fields of a Data record's first line.
@@ -129,9 +113,160 @@ fn counts_in(num: Lines, row: &[u16]) -> Checked
     Checked::Good
 }
 
+// A Data record's four counts, read and tested.
+fn count_fields(num: Lines, line: &[u8], row: &mut [u16]) -> Checked
+    requires { ⌜ length (now row) ≡ 20 ⌝ }
+    ensures { λ r. ⌜ checkedOf (take 16 (now (row .exit))) r ≡ countFields (num .0) (now (line .entry)) (take 12 (now (row .entry))) ⌝ }
+{
+    match read_columns::read_numbers(line, num, Words(12), Words(4), row) {
+        Checked::Flawed(f) => Checked::Flawed(f),
+        Checked::Good => counts_in(num, row),
+    }
+}
+
+// Nothing stands behind the fields of a Data record's first line.
+fn data_blanks(num: Lines, line: &[u8], row: &[u16]) -> Opening
+    requires { ⌜ length (now row) ≡ 20 ⌝ }
+    ensures { λ r. ⌜ headOf (now (row .entry)) r ≡ onward (blankAfter (num .0) (now (line .entry)) (columnsOfFields (min (getD (now (row .entry)) 12 0) 20))) (λ _. passed (counts (take (min (getD (now (row .entry)) 12 0) 20) (now (row .entry))))) ⌝ }
+{
+    let used = line_plan::on_line(units::words_said(row[12]));
+    match read_columns::blank_after(line, num, units::columns_of_fields(used)) {
+        Checked::Flawed(f) => Opening::Flawed(f),
+        Checked::Good => Opening::Data,
+    }
+}
+
+// A Data record's fields behind its counts, and nothing behind them.
+fn prologue_fields(num: Lines, line: &[u8], row: &mut [u16]) -> Opening
+    requires { ⌜ (length (now row) ≡ 20) × (16 ≤ getD (now row) 12 0) ⌝ }
+    ensures { λ r. ⌜ headOf (now (row .exit)) r ≡ prologueFields (num .0) (now (line .entry)) (take 16 (now (row .entry))) ⌝ }
+{
+    let more = line_plan::on_line(units::words_said(row[12])).0 - 16;
+    match read_columns::read_numbers(line, num, Words(16), Words(more), row) {
+        Checked::Flawed(f) => Opening::Flawed(f),
+        Checked::Good => data_blanks(num, line, row),
+    }
+}
+
+// A Data record's fields behind the first 12.
+fn data_fields(num: Lines, line: &[u8], row: &mut [u16]) -> Opening
+    requires { ⌜ length (now row) ≡ 20 ⌝ }
+    ensures { λ r. ⌜ headOf (now (row .exit)) r ≡ dataFields (num .0) (now (line .entry)) (take 12 (now (row .entry))) ⌝ }
+{
+    match count_fields(num, line, row) {
+        Checked::Flawed(f) => Opening::Flawed(f),
+        Checked::Good => prologue_fields(num, line, row),
+    }
+}
+
+// A record's fields behind the first 12, which say its kind.
+fn kind_fields(num: Lines, line: &[u8], row: &mut [u16]) -> Opening
+    requires { ⌜ length (now row) ≡ 20 ⌝ }
+    ensures { λ r. ⌜ headOf (now (row .exit)) r ≡ kindFields (num .0) (now (line .entry)) (take 12 (now (row .entry))) ⌝ }
+{
+    let kind = row[1];
+    if kind == 2101 {
+        return catalogue_fields(num, line, row);
+    }
+    if kind == 3101 {
+        return header_fields(num, line, row);
+    }
+    if kind == 1101 {
+        return data_fields(num, line, row);
+    }
+    Opening::Flawed(Flaw::Kind(num))
+}
+
+// The fields of a record's first line, into the row.
+fn first_fields(num: Lines, line: &[u8], row: &mut [u16]) -> Opening
+    requires { ⌜ length (now row) ≡ 20 ⌝ }
+    ensures { λ r. ⌜ headOf (now (row .exit)) r ≡ firstFields (num .0) (now (line .entry)) ⌝ }
+{
+    match read_columns::read_numbers(line, num, Words(0), Words(12), row) {
+        Checked::Flawed(f) => Opening::Flawed(f),
+        Checked::Good => kind_fields(num, line, row),
+    }
+}
+
+// Puts a record's first words: LTOT, its kind, and the fields of its first line from field 3 on.
+fn put_head(total: Words, kind: u16, used: Words, row: &[u16], block: &mut [u8], held: Words)
+    requires { ⌜ (total .0 < 65536) × (used .0 ≤ length (now row)) × (used .0 ≤ 20) × (held .0 ≤ 7998) ⌝ }
+    ensures { λ _. ⌜ now (block .exit) ≡ put (held .0) (now (block .entry)) (total .0 ∷ (kind ∷ slice 2 (used .0) (now (row .entry)))) ⌝ }
+{
+    let first = held.0 + 1;
+    let second = first + 1;
+    let third = second + 1;
+    read_store::store_word(units::saying_words(total), block, Words(first));
+    read_store::store_word(kind, block, Words(second));
+    read_store::store_words(row, Words(2), used, block, Words(third));
+}
+
+// Puts the 40 words of a Catalogue's or a Header's first line: what its fields do not give is zero.
+fn put_cards_head(total: Words, kind: u16, used: Words, row: &[u16], block: &mut [u8], held: Words)
+    requires { ⌜ (total .0 < 65536) × (2 ≤ used .0) × (used .0 ≤ 20) × (length (now row) ≡ 20) × (held .0 ≤ 7998) ⌝ }
+    ensures { λ _. ⌜ now (block .exit) ≡ put (held .0) (now (block .entry)) (total .0 ∷ (kind ∷ slice 2 (used .0) (now (row .entry))) ++ replicate (40 - used .0) 0) ⌝ }
+{
+    let n = used.0;
+    let left = 40 - n;
+    let next = held.0 + 1 + n;
+    put_head(total, kind, used, row, block, held);
+    let at = units::bytes_of_words(Words(next));
+    let size = units::bytes_of_words(Words(left));
+    read_store::store_filling(0, size, block, at);
+}
+
+// A Catalogue's or a Header's stated line count may stand, and there is room for that many.
+fn cards_room(num: Lines, held: Words, stated: u16) -> Checked
+    requires { ⌜ held .0 ≤ 7998 ⌝ }
+    ensures { λ r. ⌜ checkedOf tt r ≡ cardsRoom (num .0) (held .0) stated ⌝ }
+{
+    let before = held.0;
+    if stated < 1 {
+        return Checked::Flawed(Flaw::Count(num));
+    }
+    if 199 < stated {
+        return Checked::Flawed(Flaw::Count(num));
+    }
+    let all = before + units::words_of_cards(units::lines_said(stated)).0;
+    if 7998 < all {
+        return Checked::Flawed(Flaw::Much(num));
+    }
+    Checked::Good
+}
+
+// Puts the words of a Catalogue's or a Header's first line.
+fn put_cards(kind: u16, held: Words, used: Words, row: &[u16], block: &mut [u8]) -> Step
+    requires { ⌜ (2 ≤ used .0) × (used .0 ≤ 20) × (length (now row) ≡ 20) × (1 ≤ getD (now row) 0 0) × (getD (now row) 0 0 ≤ 199) × (held .0 ≤ 7998) ⌝ }
+    ensures { λ r. ⌜ Stepped (held .0) (now (block .entry)) (cardsGiven kind (take (used .0) (now (row .entry)))) (now (block .exit)) r ⌝ }
+{
+    let lines = units::lines_said(row[0]);
+    let cards = lines.0 - 1;
+    let behind = held.0 + 40;
+    put_cards_head(units::words_of_cards(lines), kind, used, row, block, held);
+    Step::Next(cards_only(Lines(cards)), Words(behind))
+}
+
+// A Catalogue or a Header, whose first `used` fields count.
+fn cards_line(
+    num: Lines,
+    held: Words,
+    kind: u16,
+    used: Words,
+    row: &[u16],
+    block: &mut [u8],
+) -> Step
+    requires { ⌜ (2 ≤ used .0) × (used .0 ≤ 20) × (length (now row) ≡ 20) × (held .0 ≤ 7998) ⌝ }
+    ensures { λ r. ⌜ Stepped (held .0) (now (block .entry)) (headLine (num .0) (held .0) (cards kind (take (used .0) (now (row .entry))))) (now (block .exit)) r ⌝ }
+{
+    match cards_room(num, held, row[0]) {
+        Checked::Flawed(f) => Step::Refused(f),
+        Checked::Good => put_cards(kind, held, used, row, block),
+    }
+}
+
 // There is room for a Data record with these counts, and its stated line count is what they need.
 fn data_room(num: Lines, held: Words, lines: u16, c: Counts) -> Checked
-    requires { ⌜ held .0 < 2 ^ 22 ⌝ }
+    requires { ⌜ held .0 ≤ 7998 ⌝ }
     ensures { λ r. ⌜ checkedOf tt r ≡ dataRoom (num .0) (held .0) lines c ⌝ }
 {
     let before = held.0;
@@ -143,35 +278,6 @@ fn data_room(num: Lines, held: Words, lines: u16, c: Counts) -> Checked
         return Checked::Flawed(Flaw::Count(num));
     }
     Checked::Good
-}
-
-// A Data record, whose first `used` fields are read.
-fn plan_line(num: Lines, held: Words, used: Words, row: &[u16], block: &mut [u8]) -> Step
-    requires { ⌜ (used .0 ≡ min (getD (now row) 12 0) 20) × (16 ≤ used .0) × (length (now row) ≡ 20) × (held .0 < 2 ^ 22) ⌝ }
-    ensures { λ r. ⌜ Stepped (held .0) (now (block .entry)) (planLine (num .0) (held .0) (take (used .0) (now (row .entry)))) (now (block .exit)) r ⌝ }
-{
-    let c = row_counts(row);
-    match data_room(num, held, row[0], c) {
-        Checked::Flawed(f) => Step::Refused(f),
-        Checked::Good => put_data(held, used, c, row, block),
-    }
-}
-
-// Puts the words of a Data record's first line.
-fn put_data(held: Words, used: Words, c: Counts, row: &[u16], block: &mut [u8]) -> Step
-    requires { ⌜ (used .0 ≡ min (c .lprol) 20) × (16 ≤ used .0) × (length (now row) ≡ 20) × (wordsNeeded c < 65536) × (held .0 < 2 ^ 22) ⌝ }
-    ensures { λ r. ⌜ Stepped (held .0) (now (block .entry)) (gives (wordsNeeded c ∷ (1002 ∷ slice 2 (used .0) (now (row .entry)))) (map fields (drop 1 (plan c)))) (now (block .exit)) r ⌝ }
-{
-    let behind = held.0 + used.0;
-    put_head(
-        record::words_needed(c),
-        record::DATA,
-        used,
-        row,
-        block,
-        held,
-    );
-    Step::Next(data_plan(used, c), Words(behind))
 }
 
 // What is to come of a Data record after the fields of its first line.
@@ -191,110 +297,45 @@ fn data_plan(used: Words, c: Counts) -> Plan
     }
 }
 
-// A Catalogue's further fields are blank or 0.
-fn catalogue_line(num: Lines, held: Words, line: &[u8], row: &[u16], block: &mut [u8]) -> Step
-    requires { ⌜ (length (now row) ≡ 20) × (held .0 < 2 ^ 22) ⌝ }
-    ensures { λ r. ⌜ Stepped (held .0) (now (block .entry)) (catalogueLine (num .0) (held .0) (now (line .entry)) (take 12 (now (row .entry)))) (now (block .exit)) r ⌝ }
+// Puts the words of a Data record's first line, whose first `used` fields count.
+fn put_data(held: Words, used: Words, row: &[u16], block: &mut [u8]) -> Step
+    requires { ⌜ (used .0 ≡ min (getD (now row) 12 0) 20) × (16 ≤ used .0) × (length (now row) ≡ 20) × (wordsNeeded (countsOf (now row)) ≤ 7998) × (held .0 ≤ 7998) ⌝ }
+    ensures { λ r. ⌜ Stepped (held .0) (now (block .entry)) (dataGiven (take (used .0) (now (row .entry)))) (now (block .exit)) r ⌝ }
 {
-    match read_columns::zero_fields(line, num, Words(12), Words(8)) {
-        Checked::Flawed(f) => Step::Refused(f),
-        Checked::Good => cards_line(num, held, record::CATALOGUE, Words(12), row, block),
-    }
-}
-
-// A Header's fields 13 to 15 are free, the others blank or 0.
-fn header_fields(num: Lines, line: &[u8], row: &mut [u16]) -> Checked
-    requires { ⌜ length (now row) ≡ 20 ⌝ }
-    ensures { λ r. ⌜ checkedOf (take 15 (now (row .exit))) r ≡ headerFields (num .0) (now (line .entry)) (take 12 (now (row .entry))) ⌝ }
-{
-    match read_columns::read_numbers(line, num, Words(12), Words(3), row) {
-        Checked::Flawed(f) => Checked::Flawed(f),
-        Checked::Good => read_columns::zero_fields(line, num, Words(15), Words(5)),
-    }
-}
-
-// A Header, once those fields are read.
-fn header_line(num: Lines, held: Words, line: &[u8], row: &mut [u16], block: &mut [u8]) -> Step
-    requires { ⌜ (length (now row) ≡ 20) × (held .0 < 2 ^ 22) ⌝ }
-    ensures { λ r. ⌜ Stepped (held .0) (now (block .entry)) (headerLine (num .0) (held .0) (now (line .entry)) (take 12 (now (row .entry)))) (now (block .exit)) r ⌝ }
-{
-    match header_fields(num, line, row) {
-        Checked::Flawed(f) => Step::Refused(f),
-        Checked::Good => cards_line(num, held, record::HEADER, Words(15), row, block),
-    }
-}
-
-// A Data record's four counts, read and tested.
-fn count_fields(num: Lines, line: &[u8], row: &mut [u16]) -> Checked
-    requires { ⌜ length (now row) ≡ 20 ⌝ }
-    ensures { λ r. ⌜ checkedOf (take 16 (now (row .exit))) r ≡ countFields (num .0) (now (line .entry)) (take 12 (now (row .entry))) ⌝ }
-{
-    match read_columns::read_numbers(line, num, Words(12), Words(4), row) {
-        Checked::Flawed(f) => Checked::Flawed(f),
-        Checked::Good => counts_in(num, row),
-    }
-}
-
-// The further fields of its first line, `used` in all, and nothing behind them.
-fn prologue_fields(num: Lines, used: Words, line: &[u8], row: &mut [u16]) -> Checked
-    requires { ⌜ (used .0 ≡ min (getD (now row) 12 0) 20) × (16 ≤ used .0) × (length (now row) ≡ 20) ⌝ }
-    ensures { λ r. ⌜ checkedOf (take (used .0) (now (row .exit))) r ≡ prologueFields (num .0) (now (line .entry)) (take 16 (now (row .entry))) ⌝ }
-{
-    let more = used.0 - 16;
-    match read_columns::read_numbers(line, num, Words(16), Words(more), row) {
-        Checked::Flawed(f) => Checked::Flawed(f),
-        Checked::Good => read_columns::blank_after(line, num, units::columns_of_fields(used)),
-    }
+    let c = row_counts(row);
+    let behind = held.0 + used.0;
+    put_head(
+        record::words_needed(c),
+        record::DATA,
+        used,
+        row,
+        block,
+        held,
+    );
+    Step::Next(data_plan(used, c), Words(behind))
 }
 
 // A Data record whose counts are in range.
-fn prologue_line(num: Lines, held: Words, line: &[u8], row: &mut [u16], block: &mut [u8]) -> Step
-    requires { ⌜ (16 ≤ getD (now row) 12 0) × (length (now row) ≡ 20) × (held .0 < 2 ^ 22) ⌝ }
-    ensures { λ r. ⌜ Stepped (held .0) (now (block .entry)) (onward (prologueFields (num .0) (now (line .entry)) (take 16 (now (row .entry)))) (λ first. planLine (num .0) (held .0) first)) (now (block .exit)) r ⌝ }
+fn data_line(num: Lines, held: Words, row: &[u16], block: &mut [u8]) -> Step
+    requires { ⌜ (16 ≤ getD (now row) 12 0) × (length (now row) ≡ 20) × (held .0 ≤ 7998) ⌝ }
+    ensures { λ r. ⌜ Stepped (held .0) (now (block .entry)) (headLine (num .0) (held .0) (counts (take (min (getD (now (row .entry)) 12 0) 20) (now (row .entry))))) (now (block .exit)) r ⌝ }
 {
     let used = line_plan::on_line(units::words_said(row[12]));
-    match prologue_fields(num, used, line, row) {
+    match data_room(num, held, row[0], row_counts(row)) {
         Checked::Flawed(f) => Step::Refused(f),
-        Checked::Good => plan_line(num, held, used, row, block),
+        Checked::Good => put_data(held, used, row, block),
     }
 }
 
-// A Data record: its counts, then the rest of its first line.
-fn data_line(num: Lines, held: Words, line: &[u8], row: &mut [u16], block: &mut [u8]) -> Step
-    requires { ⌜ (length (now row) ≡ 20) × (held .0 < 2 ^ 22) ⌝ }
-    ensures { λ r. ⌜ Stepped (held .0) (now (block .entry)) (dataLine (num .0) (held .0) (now (line .entry)) (take 12 (now (row .entry)))) (now (block .exit)) r ⌝ }
-{
-    match count_fields(num, line, row) {
-        Checked::Flawed(f) => Step::Refused(f),
-        Checked::Good => prologue_line(num, held, line, row, block),
-    }
-}
-
-// A record's first line, whose fields 1 to 12 are read: its kind decides.
-fn kind_line(num: Lines, held: Words, line: &[u8], row: &mut [u16], block: &mut [u8]) -> Step
-    requires { ⌜ (length (now row) ≡ 20) × (held .0 < 2 ^ 22) ⌝ }
-    ensures { λ r. ⌜ Stepped (held .0) (now (block .entry)) (kindLine (num .0) (held .0) (now (line .entry)) (take 12 (now (row .entry)))) (now (block .exit)) r ⌝ }
-{
-    let kind = row[1];
-    if kind == 2101 {
-        return catalogue_line(num, held, line, row, block);
-    }
-    if kind == 3101 {
-        return header_line(num, held, line, row, block);
-    }
-    if kind == 1101 {
-        return data_line(num, held, line, row, block);
-    }
-    Step::Refused(Flaw::Kind(num))
-}
-
-// A record's first line: fields 1 to 12, then what its kind asks for.
+// A record's first line: its fields, then its counts.
 pub fn first_line(num: Lines, held: Words, line: &[u8], row: &mut [u16], block: &mut [u8]) -> Step
-    requires { ⌜ (length (now row) ≡ 20) × (held .0 < 2 ^ 22) ⌝ }
+    requires { ⌜ (length (now row) ≡ 20) × (held .0 ≤ 7998) ⌝ }
     ensures { λ r. ⌜ Stepped (held .0) (now (block .entry)) (firstLine (num .0) (held .0) (now (line .entry))) (now (block .exit)) r ⌝ }
 {
-    match read_columns::read_numbers(line, num, Words(0), Words(12), row) {
-        Checked::Flawed(f) => Step::Refused(f),
-        Checked::Good => kind_line(num, held, line, row, block),
+    match first_fields(num, line, row) {
+        Opening::Flawed(f) => Step::Refused(f),
+        Opening::Catalogue => cards_line(num, held, record::CATALOGUE, Words(12), row, block),
+        Opening::Header => cards_line(num, held, record::HEADER, Words(15), row, block),
+        Opening::Data => data_line(num, held, row, block),
     }
 }

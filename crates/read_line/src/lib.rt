@@ -8,7 +8,7 @@ use units::Lines;
 use units::Words;
 ghost use mathlib.Core.Path.{_≡_};
 ghost use mathlib.Core.List.{[], _∷_};
-ghost use Prim.Native.Nat.{_≤_, _<_, _^_, min};
+ghost use Prim.Native.Nat.{_≤_, _<_, min};
 ghost use lib.ListN.{length, take};
 ghost use Rattle.words.specs.Words.{wordsOf};
 ghost use Rattle.words.specs.Scans.{plainIn};
@@ -79,7 +79,7 @@ fn next_row(p: Plan) -> Plan
 
 // Puts the 80 columns of a card: those that the line lacks are blank.
 fn put_card(line: &[u8], block: &mut [u8], held: Words)
-    requires { ⌜ held .0 < 2 ^ 22 ⌝ }
+    requires { ⌜ held .0 ≤ 7998 ⌝ }
     ensures { λ _. ⌜ now (block .exit) ≡ put (held .0) (now (block .entry)) (wordsOf (columns 80 (now (line .entry)) 0)) ⌝ }
 {
     let first = held.0 + 1;
@@ -97,7 +97,7 @@ fn put_card(line: &[u8], block: &mut [u8], held: Words)
 
 // A card.
 fn card_line(p: Plan, num: Lines, held: Words, line: &[u8], block: &mut [u8]) -> Step
-    requires { ⌜ (0 < p .cards .0) × (held .0 < 2 ^ 22) ⌝ }
+    requires { ⌜ (0 < p .cards .0) × (held .0 ≤ 7998) ⌝ }
     ensures { λ r. ⌜ Stepped (held .0) (now (block .entry)) (inState (num .0) (held .0) (toCome p) (now (line .entry))) (now (block .exit)) r ⌝ }
 {
     let behind = held.0 + 40;
@@ -150,7 +150,7 @@ fn fields_line(
     row: &mut [u16],
     block: &mut [u8],
 ) -> Step
-    requires { ⌜ (p .cards .0 ≡ 0) × (0 < p .left .0) × (length (now row) ≡ 20) × (held .0 < 2 ^ 22) ⌝ }
+    requires { ⌜ (p .cards .0 ≡ 0) × (0 < p .left .0) × (length (now row) ≡ 20) × (held .0 ≤ 7998) ⌝ }
     ensures { λ r. ⌜ Stepped (held .0) (now (block .entry)) (inState (num .0) (held .0) (toCome p) (now (line .entry))) (now (block .exit)) r ⌝ }
 {
     let left = p.left.0;
@@ -194,7 +194,7 @@ fn open_line(
     row: &mut [u16],
     block: &mut [u8],
 ) -> Step
-    requires { ⌜ (toCome p ≡ []) × (length (now row) ≡ 20) × (held .0 < 2 ^ 22) ⌝ }
+    requires { ⌜ (toCome p ≡ []) × (length (now row) ≡ 20) × (held .0 ≤ 7998) ⌝ }
     ensures { λ r. ⌜ Stepped (held .0) (now (block .entry)) (inState (num .0) (held .0) [] (now (line .entry))) (now (block .exit)) r ⌝ }
 {
     if read_columns::ink_after(line, Bytes(0)).0 == 0 {
@@ -213,7 +213,7 @@ pub fn read_line(
     row: &mut [u16],
     block: &mut [u8],
 ) -> Step
-    requires { ⌜ (length (now row) ≡ 20) × (held .0 < 2 ^ 22) × (plain .0 ≡ plainIn (now line)) ⌝ }
+    requires { ⌜ (length (now row) ≡ 20) × (held .0 ≤ 7998) × (plain .0 ≡ plainIn (now line)) ⌝ }
     ensures { λ r. ⌜ Stepped (held .0) (now (block .entry)) (readLine (num .0) (held .0) (toCome plan) (now (line .entry))) (now (block .exit)) r ⌝ }
 {
     let column = read_columns::bad_column(line, plain);

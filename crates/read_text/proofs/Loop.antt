@@ -1,7 +1,7 @@
 -- A turn of the reading: what is still to be read, from here, gives the whole.
 use mathlib.Core.Path.{_≡_, refl, sym, ap, _∙_}
 use mathlib.Core.List.{List, [], _∷_, _++_}
-use Prim.Native.Nat.{ℕ, suc, _+_, _*_, _≤_}
+use Prim.Native.Nat.{ℕ, suc, _+_, _^_, _≤_, _<_}
 use native.Mathlib.Omega.{arith}
 use lib.ListN.{length, drop, length-append}
 use Rattle.units.specs.declared.Words.{Words}
@@ -11,13 +11,16 @@ use Rattle.read_columns.specs.declared.Flaw.{Flaw}
 use Rattle.read_columns.specs.Cases.{flawOf}
 use Rattle.read_first_line.specs.FirstLine.{Shape, Read}
 use Rattle.read_line.specs.Lines.{readLine, readLines}
-use Rattle.read_first_line.specs.State.{Stand, toCome, put, after, standOf, Near}
+use Rattle.read_first_line.specs.State.{Stand, toCome, put, after, standOf}
 use Rattle.read_text.specs.Content.{stored}
 use Rattle.read_first_line.specs.declared.Plan.{Plan}
-use Rattle.read_first_line.specs.declared.Step.{Step}
 use Rattle.read_first_line.specs.declared.Step.the-variants.{Next, Refused}
 use Rattle.read_cut.specs.Lines.{linesIn}
 use Rattle.read_first_line.proofs.Heads.{put-append}
+use Rattle.units.proofs.Told.{Known}
+use Rattle.read_text.specs.Cases.{TextRow}
+use Rattle.read_text.proofs.Opened.{wordsToCome, Taken, line-known}
+use Rattle.read_text.proofs.Known.{room-on}
 
 -- words that are read in two parts
 kept-both : (held : ℕ) (b ws : List ℕ) (v : Verdict (List ℕ)) → stored held b (onward v (λ vs. passed (ws ++ vs))) ≡ stored (held + length ws) (put held b ws) v
@@ -52,14 +55,21 @@ module _ (num held : ℕ) (rest : List Shape) (l : List ℕ) (ls : List (List �
       by (passed s) e = absurd (never-passed e)
       by (refused r) e = cc
 
--- an accepted line has at most 40 words
-pub near-next : (held : ℕ) (p : Plan) (n : Words) (r : Step) → r ≡ Next p n → Near held r → n .0 ≤ held + 40
-near-next held p n r e h = rw e at h
+-- and there is room for the lines to come, as before it
+pub room-next : (num held : ℕ) (rest : List Shape) (l b b′ : List ℕ) (p : Plan) (n : Words) → num < 2 ^ 24 → held + wordsToCome rest ≤ 7998
+    → standOf b′ (Next p n) ≡ after held b (readLine num held rest l) → n .0 + wordsToCome (toCome p) ≤ 7998
+room-next num held rest l b b′ p n hn h e = by (readLine num held rest l) (line-known num hn held l rest h) e
+  where
+    by : (v : Verdict Read) → Known TextRow (Taken held rest l) v → standOf b′ (Next p n) ≡ after held b v → n .0 + wordsToCome (toCome p) ≤ 7998
+    by (passed s) t e =
+        let same : _≡_ {A = Stand} (record { rest = toCome p; words = n .0; block = b′ }) (record { rest = s .rest; words = held + length (s .words); block = put held b (s .words) }) = cc in
+        rw (ap (λ (x : Stand). x .words) same, ap (λ (x : Stand). x .rest) same) (room-on held rest l s h (t .given))
+    by (refused r) t e = absurd (never-passed (sym e))
 
 -- where the loop stands at place `at`: the lines from there on, and bounds on what is counted
-pub record Going (text b₀ b : List ℕ) (row : List ℕ) (rest : List Shape) (held num at : ℕ) : Type 0 where
+pub record Reading (text b₀ b : List ℕ) (row : List ℕ) (rest : List Shape) (held num at : ℕ) : Type 0 where
   pub same : stored held b (readLines num held rest (linesIn (drop at text))) ≡ stored 0 b₀ (readLines 1 0 [] (linesIn text))
   pub length-kept : length b ≡ length b₀
   pub row-long : length row ≡ 20
   pub lines-most : num ≤ at + 1
-  pub words-most : held ≤ 40 * num
+  pub room : held + wordsToCome rest ≤ 7998

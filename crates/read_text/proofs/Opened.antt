@@ -20,7 +20,7 @@ use Rattle.units.specs.Units.{Line}
 use Rattle.line_plan.proofs.Plans.{fieldsIn, part-turn, fieldsIn-plan}
 use Rattle.read_columns.specs.Columns.{badColumn, inkFrom, blankAfter, columnOf, numbers, zeros}
 use Rattle.read_line.proofs.Later.{card-size}
-use Rattle.read_first_line.specs.FirstLine.{Shape, card, fields, Read, gives, cardsLine, countsIn, dataRoom, planLine, headerFields, countFields, prologueFields, catalogueLine, headerLine, dataLine, kindLine, firstLine}
+use Rattle.read_first_line.specs.FirstLine.{Shape, card, fields, Read, gives, Head, cards, counts, countsIn, catalogueFields, headerFields, countFields, prologueFields, dataFields, kindFields, firstFields, cardsRoom, dataRoom, headLine, firstLine}
 use Rattle.read_line.specs.Lines.{rowFields, inState, readLine}
 use Rattle.read_text.specs.Spelled.{Readable, Blanks, SpellsAll, SpellsZero, LineSpells}
 use Rattle.units.proofs.Told.{Known, then-known, known-as}
@@ -86,6 +86,12 @@ pub record DataFirst (l : Line) (s : Read) : Type 0 where
   pub lines : word head 1 ≡ linesNeeded (countsOf head)
   pub words : s .words ≡ wordsNeeded (countsOf head) ∷ (1002 ∷ drop 2 head)
   pub rest : s .rest ≡ map fields (drop 1 (dataPlan head))
+
+-- what the fields of a first line say
+data HeadRead (l : Line) : Head → Type 0 where
+  catalogue-read : {ws : List ℕ} → CardsHead 12 2101 l ws → HeadRead l (cards 2001 ws)
+  header-read : {ws : List ℕ} → CardsHead 15 3101 l ws → HeadRead l (cards 3002 ws)
+  data-read : {ws : List ℕ} → DataHead l ws → HeadRead l (counts ws)
 
 pub data First (l : Line) (s : Read) : Type 0 where
   catalogue-first : CardsFirst 12 2001 2101 l s → First l s
@@ -163,7 +169,75 @@ module _ (num : ℕ) (hn : num < 2 ^ 24) where
       (λ t. told 27 num (columnOf (12 + right)) (omega arith) hn (omega (arith, ltb-true right 4 t)))
       (λ t. (refl, range-ok (countsOf r) (ltb-false right 4 t)))
 
+  -- ---- the fields of a first line
+
+  module _ (l : Line) where
+    module _ (head : List ℕ) (read : WordsRead l 0 12 head) where
+      catalogue-known : word head 2 ≡ 2101 → Known TextRow (HeadRead l) (catalogueFields num l head)
+      unfolding catalogueFields
+      catalogue-known e =
+          then-known TextRow (λ _. (k : ℕ) → 12 ≤ k → k < 20 → SpellsZero l k) (HeadRead l) (zeros num l 12 8) _ (zeros-known num hn l 12 8 (omega arith))
+          (λ _ z. catalogue-read (record { read = read; says = e; zeros = z }))
+
+      header-known : word head 2 ≡ 3101 → Known TextRow (HeadRead l) (headerFields num l head)
+      unfolding headerFields
+      header-known e =
+          then-known TextRow (WordsRead l 12 3) (HeadRead l) (numbers num l 12 3) _ (numbers-known num hn l 12 3 (omega arith))
+          (λ more m. then-known TextRow (λ _. (k : ℕ) → 15 ≤ k → k < 20 → SpellsZero l k) (HeadRead l) (zeros num l 15 5) _ (zeros-known num hn l 15 5 (omega arith))
+          (λ _ z. header-read (record { read = both l 12 3 head more read m; says = stays head more 12 (read .count) 1 (omega arith) ∙ e; zeros = z })))
+
+      count-fields-known : word head 2 ≡ 1101 → Known TextRow (CountsHead l) (countFields num l head)
+      unfolding countFields
+      count-fields-known e =
+          then-known TextRow (WordsRead l 12 4) (CountsHead l) (numbers num l 12 4) _ (numbers-known num hn l 12 4 (omega arith))
+          (λ more m. known-as TextRow (λ q. (q ≡ head ++ more) × CountsOk (countsOf (head ++ more))) (CountsHead l) (countsIn num (head ++ more)) (counts-known (head ++ more))
+          (λ q c. rw (c .0) (record { read = both l 12 4 head more read m; says = stays head more 12 (read .count) 1 (omega arith) ∙ e; counts = c .1 })))
+
+    prologue-known : Readable l → (r : List ℕ) → CountsHead l r → Known TextRow (HeadRead l) (prologueFields num l r)
+    unfolding prologueFields
+    prologue-known e r h =
+        let used = min (word r 13) 20 in
+        then-known TextRow (WordsRead l 16 (used - 16)) (HeadRead l) (numbers num l 16 (used - 16)) _ (numbers-known num hn l 16 (used - 16) (omega arith))
+        (λ more m. then-known TextRow (λ _. Blanks (drop (6 * used) l)) (HeadRead l) (blankAfter num l (6 * used)) _ (blank-known num hn l (6 * used) e (omega arith))
+        (λ _ b. data-read (head-on l r more h m b)))
+
+    kind-known : Readable l → (head : List ℕ) → WordsRead l 0 12 head → Known TextRow (HeadRead l) (kindFields num l head)
+    unfolding kindFields dataFields
+    kind-known e head read =
+        by-test (Known TextRow (HeadRead l)) (eqb (word head 2) 2101) (catalogueFields num l head) _ (λ t. catalogue-known head read (eqb-true (word head 2) 2101 t))
+        (λ _. by-test (Known TextRow (HeadRead l)) (eqb (word head 2) 3101) (headerFields num l head) _ (λ t. header-known head read (eqb-true (word head 2) 3101 t))
+        (λ _. by-test (Known TextRow (HeadRead l)) (eqb (word head 2) 1101) (dataFields num l head) (refused (answer 23 num 7 0))
+        (λ t. then-known TextRow (CountsHead l) (HeadRead l) (countFields num l head) _ (count-fields-known head read (eqb-true (word head 2) 1101 t)) (λ r h. prologue-known e r h))
+        (λ _. told 23 num 7 (omega arith) hn (omega arith))))
+
+    first-fields-known : Readable l → Known TextRow (HeadRead l) (firstFields num l)
+    unfolding firstFields
+    first-fields-known e = then-known TextRow (WordsRead l 0 12) (HeadRead l) (numbers num l 0 12) _ (numbers-known num hn l 0 12 (omega arith)) (λ head read. kind-known e head read)
+
+  -- ---- its counts
+
   module _ (held : ℕ) (l : Line) where
+    -- there is room, and the stated line count may stand
+    abbrev CardsFit : ℕ → Unit {0} → Type 0
+    CardsFit lines _ = (1 ≤ lines) × (held + 40 * lines ≤ 7998)
+
+    cards-room-known : (lines : ℕ) → Known TextRow (CardsFit lines) (cardsRoom num held lines)
+    unfolding cardsRoom
+    cards-room-known lines =
+        by-test (Known TextRow (CardsFit lines)) (ltb lines 1 || ltb 199 lines) (refused (answer 24 num 1 0)) _ (λ _. told 24 num 1 (omega arith) hn (omega arith))
+        (λ t. by-test (Known TextRow (CardsFit lines)) (ltb 7998 (held + 40 * lines)) (refused (answer 28 num 1 0)) _ (λ _. told 28 num 1 (omega arith) hn (omega arith))
+        (λ u. (ltb-false lines 1 (or-off (ltb lines 1) _ t .0), ltb-false 7998 (held + 40 * lines) u)))
+
+    abbrev DataFits : ℕ → Counts → Unit {0} → Type 0
+    DataFits lines c _ = (lines ≡ linesNeeded c) × (held + wordsNeeded c ≤ 7998)
+
+    data-room-known : (lines : ℕ) (c : Counts) → Known TextRow (DataFits lines c) (dataRoom num held lines c)
+    unfolding dataRoom
+    data-room-known lines c =
+        by-test (Known TextRow (DataFits lines c)) (ltb 7998 (held + wordsNeeded c)) (refused (answer 28 num 1 0)) _ (λ _. told 28 num 1 (omega arith) hn (omega arith))
+        (λ t. by-test (Known TextRow (DataFits lines c)) (not (eqb lines (linesNeeded c))) (refused (answer 24 num 1 0)) _ (λ _. told 24 num 1 (omega arith) hn (omega arith))
+        (λ u. (eqb-true lines (linesNeeded c) (not-false _ u), ltb-false 7998 (held + wordsNeeded c) t)))
+
     -- the line of a Catalogue or a Header with n fields that may be free
     module _ (n kind shows : ℕ) (low : 2 ≤ n) (high : n ≤ 40) (head : List ℕ) (is : CardsHead n shows l head)
         (of : (s : Read) → CardsFirst n kind shows l s → First l s) where
@@ -180,25 +254,18 @@ module _ (num : ℕ) (hn : num < 2 ^ 24) where
             room = room;
           }
 
-      cards-known : Known TextRow (Opens held l) (cardsLine num held kind head)
-      unfolding cardsLine
-      cards-known =
-          by-test (Known TextRow (Opens held l)) (ltb (word head 1) 1 || ltb 199 (word head 1)) (refused (answer 24 num 1 0)) _ (λ _. told 24 num 1 (omega arith) hn (omega arith))
-          (λ t. by-test (Known TextRow (Opens held l)) (ltb 7998 (held + 40 * word head 1)) (refused (answer 28 num 1 0)) _ (λ _. told 28 num 1 (omega arith) hn (omega arith))
-          (λ u. cards-open (ltb-false (word head 1) 1 (or-off (ltb (word head 1) 1) _ t .0)) (ltb-false 7998 (held + 40 * word head 1) u)))
+      cards-known : Known TextRow (Opens held l) (headLine num held (cards kind head))
+      cards-known = then-known TextRow (CardsFit (word head 1)) (Opens held l) (cardsRoom num held (word head 1)) _ (cards-room-known (word head 1)) (λ _ r. cards-open (r .0) (r .1))
 
     -- the line of a Data record
     module _ (head : List ℕ) (is : DataHead l head) where
-      abbrev needed : ℕ
-      needed = wordsNeeded (countsOf head)
-
-      data-open : word head 1 ≡ linesNeeded (countsOf head) → held + needed ≤ 7998
-          → Opens held l (record { words = needed ∷ (1002 ∷ drop 2 head); rest = map fields (drop 1 (dataPlan head)) })
+      data-open : word head 1 ≡ linesNeeded (countsOf head) → held + wordsNeeded (countsOf head) ≤ 7998
+          → Opens held l (record { words = wordsNeeded (countsOf head) ∷ (1002 ∷ drop 2 head); rest = map fields (drop 1 (plan (countsOf head))) })
       unfolding fieldsIn
       data-open lines room =
           let least = is .counts .lprol .least-is in
           let size = is .read .count in
-          let come = fields-to-come (drop 1 (dataPlan head)) in
+          let come = fields-to-come (drop 1 (plan (countsOf head))) in
           let first = ap fieldsIn (plan-turn (countsOf head) (omega arith)) in
           let all = fieldsIn-plan (countsOf head) in
           record {
@@ -207,79 +274,21 @@ module _ (num : ℕ) (hn : num < 2 ^ 24) where
             room = room;
           }
 
-      room-known : Known TextRow (λ _. (word head 1 ≡ linesNeeded (countsOf head)) × (held + needed ≤ 7998)) (dataRoom num held (word head 1) (countsOf head))
-      unfolding dataRoom
-      room-known =
-          let lines = linesNeeded (countsOf head) in
-          by-test (Known TextRow R) (ltb 7998 (held + needed)) (refused (answer 28 num 1 0)) _ (λ _. told 28 num 1 (omega arith) hn (omega arith))
-          (λ t. by-test (Known TextRow R) (not (eqb (word head 1) lines)) (refused (answer 24 num 1 0)) _ (λ _. told 24 num 1 (omega arith) hn (omega arith))
-          (λ u. (eqb-true (word head 1) lines (not-false _ u), ltb-false 7998 (held + needed) t)))
-        where
-          R : Unit {0} → Type 0
-          R _ = (word head 1 ≡ linesNeeded (countsOf head)) × (held + needed ≤ 7998)
-
-      plan-known : Known TextRow (Opens held l) (planLine num held head)
-      unfolding planLine
-      plan-known =
-          then-known TextRow (λ _. (word head 1 ≡ linesNeeded (countsOf head)) × (held + needed ≤ 7998)) (Opens held l) (dataRoom num held (word head 1) (countsOf head)) _ room-known
+      data-line-known : Known TextRow (Opens held l) (headLine num held (counts head))
+      data-line-known =
+          then-known TextRow (DataFits (word head 1) (countsOf head)) (Opens held l) (dataRoom num held (word head 1) (countsOf head)) _ (data-room-known (word head 1) (countsOf head))
           (λ _ r. data-open (r .0) (r .1))
+
+    head-known : (h : Head) → HeadRead l h → Known TextRow (Opens held l) (headLine num held h)
+    head-known (cards kind ws) (catalogue-read c) = cards-known 12 2001 2101 (omega arith) (omega arith) ws c (λ _ f. catalogue-first f)
+    head-known (cards kind ws) (header-read c) = cards-known 15 3002 3101 (omega arith) (omega arith) ws c (λ _ f. header-first f)
+    head-known (counts ws) (data-read d) = data-line-known ws d
 
     -- ---- any line
 
-    module _ (head : List ℕ) (read : WordsRead l 0 12 head) where
-      catalogue-known : word head 2 ≡ 2101 → Known TextRow (Opens held l) (catalogueLine num held l head)
-      unfolding catalogueLine
-      catalogue-known e =
-          then-known TextRow (λ _. (k : ℕ) → 12 ≤ k → k < 20 → SpellsZero l k) (Opens held l) (zeros num l 12 8) _ (zeros-known num hn l 12 8 (omega arith))
-          (λ _ z. cards-known 12 2001 2101 (omega arith) (omega arith) head (record { read = read; says = e; zeros = z }) (λ _ c. catalogue-first c))
-
-      header-fields-known : word head 2 ≡ 3101 → Known TextRow (CardsHead 15 3101 l) (headerFields num l head)
-      unfolding headerFields
-      header-fields-known e =
-          then-known TextRow (WordsRead l 12 3) (CardsHead 15 3101 l) (numbers num l 12 3) _ (numbers-known num hn l 12 3 (omega arith))
-          (λ more m. then-known TextRow (λ _. (k : ℕ) → 15 ≤ k → k < 20 → SpellsZero l k) (CardsHead 15 3101 l) (zeros num l 15 5) _ (zeros-known num hn l 15 5 (omega arith))
-          (λ _ z. record { read = both l 12 3 head more read m; says = stays head more 12 (read .count) 1 (omega arith) ∙ e; zeros = z }))
-
-      header-known : word head 2 ≡ 3101 → Known TextRow (Opens held l) (headerLine num held l head)
-      unfolding headerLine
-      header-known e =
-          then-known TextRow (CardsHead 15 3101 l) (Opens held l) (headerFields num l head) _ (header-fields-known e)
-          (λ r h. cards-known 15 3002 3101 (omega arith) (omega arith) r h (λ _ c. header-first c))
-
-      count-fields-known : word head 2 ≡ 1101 → Known TextRow (CountsHead l) (countFields num l head)
-      unfolding countFields
-      count-fields-known e =
-          then-known TextRow (WordsRead l 12 4) (CountsHead l) (numbers num l 12 4) _ (numbers-known num hn l 12 4 (omega arith))
-          (λ more m. known-as TextRow (λ q. (q ≡ head ++ more) × CountsOk (countsOf (head ++ more))) (CountsHead l) (countsIn num (head ++ more)) (counts-known (head ++ more))
-          (λ q c. rw (c .0) (record { read = both l 12 4 head more read m; says = stays head more 12 (read .count) 1 (omega arith) ∙ e; counts = c .1 })))
-
-    prologue-known : Readable l → (r : List ℕ) → CountsHead l r → Known TextRow (DataHead l) (prologueFields num l r)
-    unfolding prologueFields
-    prologue-known e r h =
-        let used = min (word r 13) 20 in
-        then-known TextRow (WordsRead l 16 (used - 16)) (DataHead l) (numbers num l 16 (used - 16)) _ (numbers-known num hn l 16 (used - 16) (omega arith))
-        (λ more m. then-known TextRow (λ _. Blanks (drop (6 * used) l)) (DataHead l) (blankAfter num l (6 * used)) _ (blank-known num hn l (6 * used) e (omega arith))
-        (λ _ b. head-on l r more h m b))
-
-    data-known : Readable l → (head : List ℕ) → WordsRead l 0 12 head → word head 2 ≡ 1101 → Known TextRow (Opens held l) (dataLine num held l head)
-    unfolding dataLine
-    data-known e head read k =
-        then-known TextRow (CountsHead l) (Opens held l) (countFields num l head) _ (count-fields-known head read k)
-        (λ r h. then-known TextRow (DataHead l) (Opens held l) (prologueFields num l r) _ (prologue-known e r h)
-        (λ q g. plan-known q g))
-
-    kind-known : Readable l → (head : List ℕ) → WordsRead l 0 12 head → Known TextRow (Opens held l) (kindLine num held l head)
-    unfolding kindLine
-    kind-known e head read =
-        by-test (Known TextRow (Opens held l)) (eqb (word head 2) 2101) (catalogueLine num held l head) _ (λ t. catalogue-known head read (eqb-true (word head 2) 2101 t))
-        (λ _. by-test (Known TextRow (Opens held l)) (eqb (word head 2) 3101) (headerLine num held l head) _ (λ t. header-known head read (eqb-true (word head 2) 3101 t))
-        (λ _. by-test (Known TextRow (Opens held l)) (eqb (word head 2) 1101) (dataLine num held l head) (refused (answer 23 num 7 0)) (λ t. data-known e head read (eqb-true (word head 2) 1101 t))
-        (λ _. told 23 num 7 (omega arith) hn (omega arith))))
-
     first-known : Readable l → Known TextRow (Opens held l) (firstLine num held l)
     unfolding firstLine
-    first-known e =
-        then-known TextRow (WordsRead l 0 12) (Opens held l) (numbers num l 0 12) _ (numbers-known num hn l 0 12 (omega arith)) (λ head read. kind-known e head read)
+    first-known e = then-known TextRow (HeadRead l) (Opens held l) (firstFields num l) _ (first-fields-known l e) (λ h r. head-known h r)
 
     row-known : Readable l → (n : ℕ) → n ≤ 7998 → Known TextRow (LineSpells (fields n) l) (rowFields num l n)
     unfolding rowFields

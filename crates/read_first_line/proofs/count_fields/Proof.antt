@@ -8,28 +8,10 @@ use borrow.Author.Needs.{needs}
 use Rattle.read_first_line.proofs.count_fields.Statement.{statement}
 use Rattle.read_first_line.proofs.count_fields.Tie as tie
 
-read-numbers-requires : tie.Need-read-numbers-requires
-read-numbers-requires c κs = search needs
-
-enum-known-f : tie.Need-enum-known-f
-enum-known-f c = search needs
-
-enum-told : tie.Need-enum-told
-enum-told c = search needs
-
-counts-in-requires : tie.Need-counts-in-requires
-counts-in-requires c κs = search needs
-
-same-length : tie.Need-same-length
-same-length c = search needs
-
 returns : tie.Need-returns
 unfolding countFields
 returns c = let a = c .before .before .before .before .before .before .before .before .before .args in let num = a .num .0 in
     flaw-read (take 12 (now (a .row))) (countsIn num) (numbers num (now (a .line)) 12 4) _ (c .before .f .given .1) (c .before .before .before .before .before .read-numbers .ensures)
-
-same-length-2 : tie.Need-same-length-2
-same-length-2 c = search needs
 
 returns-2 : tie.Need-returns-2
 unfolding countFields
@@ -41,11 +23,11 @@ pub count-fields-spec : {M : Type 1} → statement M
 count-fields-spec =
     tie.close
     (tie.spec
-    read-numbers-requires
-    enum-known-f
-    enum-told
-    counts-in-requires
-    same-length
+    (λ c κs. search needs)
+    (λ c. search needs)
+    (λ c. search needs)
+    (λ c κs. search needs)
+    (λ c. search needs)
     returns
-    same-length-2
+    (λ c. search needs)
     returns-2)

@@ -1,62 +1,55 @@
-use lib.ListN.{length, take, getD}
-use denote.Ref.{now}
-use mathlib.Core.Path.{_≡_, _∙_}
-use Prim.Native.Nat.{_≤_}
-use native.Mathlib.Omega.{arith}
+use Rattle.read_first_line.specs.FirstLine.{dataRoom, dataGiven}
+use Rattle.read_columns.specs.Cases.{checkedOf}
+use Rattle.record.specs.Counts.{countsOf}
+use Rattle.record.proofs.FourCounts.{counts-take}
+use Rattle.words.specs.Words.{word}
+use lib.ListN.{getD, take}
 use lib.Seq.{getD-take}
-use Rattle.read_first_line.specs.FirstLine.{dataLine}
-use Rattle.read_first_line.proofs.Steps.{told, flaw-ends, good-goes}
-use Rattle.read_first_line.proofs.Fronts.{counted}
+use Prim.Native.Nat.{min}
+use mathlib.Core.Path.{_≡_, sym, ap, ap₂, _∙_}
+use Rattle.read_first_line.proofs.Steps.{told, same-step, flaw-ends, good-goes}
+use Rattle.read_first_line.proofs.Heads.{room-most}
+use denote.Ref.{now}
+use native.Mathlib.Omega.{arith}
 use borrow.Author.Needs.{needs}
 use Rattle.read_first_line.proofs.data_line.Statement.{statement}
 use Rattle.read_first_line.proofs.data_line.Tie as tie
 
--- back from one place to another
-abbrev start-before-row : tie.After-row → tie.Start
-start-before-row c = c .before .before .before .before .before .before
+used-is : (c : tie.After-on-line) → c .on-line .result .0 ≡ min (getD (now (c .before .before .before .before .before .args .row)) 12 0) 20
+used-is c = c .on-line .ensures ∙ ap (λ k. min k 20) (c .before .words-said .ensures .0)
 
-count-fields-requires : tie.Need-count-fields-requires
-count-fields-requires c κs = search needs
+-- the fields that count have the counts and the line count of the row
+said : (c : tie.After-data-room) → let a = c .before .before .before .before .before .before .before .before .args in let ws = take (min (getD (now (a .row)) 12 0) 20) (now (a .row)) in
+    checkedOf tt (c .data-room .result) ≡ dataRoom (a .num .0) (a .held .0) (word ws 1) (countsOf ws)
+said c = let s = c .before .before .before .before .before .before .before .before in let row = now (s .args .row) in let used = min (getD row 12 0) 20 in
+    c .data-room .ensures
+    ∙ ap₂ (dataRoom _ _) (sym (getD-take used row 0 0 (omega (arith, s .pre .0)))) (c .before .row-counts .ensures ∙ sym (counts-take used row (omega (arith, s .pre .0))))
 
-enum-known-f : tie.Need-enum-known-f
-enum-known-f c = search needs
-
-enum-told : tie.Need-enum-told
-enum-told c = search needs
-
-prologue-line-requires : tie.Need-prologue-line-requires
-prologue-line-requires c κs = let a = start-before-row (c .before .before .before .before .before) .args in let row = c .before .before .before .before .before .before .count-fields .last .1 .1 .0 in
-    let low : 16 ≤ getD (take 16 row) 12 0 = counted (a .num .0) (now (a .line)) (take 12 (now (a .row))) (take 16 row) (told (take 16 row) (c .before .before .enum-told .given .1) (c .before .before .before .before .before .before .count-fields .ensures)) in
-    let kept : length row ≡ length (now (a .row)) = c .before .before .before .before .before .before .count-fields .kept .1 .1 .0 in
-    (omega (arith, low, getD-take 16 row 12 0 (omega arith)), kept ∙ start-before-row (c .before .before .before .before .before) .pre .0, start-before-row (c .before .before .before .before .before) .pre .1)
-
-same-length : tie.Need-same-length
-same-length c = search needs
+put-data-requires : tie.Need-put-data-requires
+put-data-requires c κs = let d = c .before .before .before in let o = d .before .before .before in let s = o .before .before .before .before .before in
+    let used = used-is o in let m = room-most _ _ _ _ (told tt (c .before .enum-told .given .1) (d .data-room .ensures ∙ ap (dataRoom _ _ _) (d .before .row-counts .ensures))) in
+    (used, omega (arith, used, s .pre .0), s .pre .1, omega (arith, m), s .pre .2)
 
 returns : tie.Need-returns
-unfolding dataLine
-returns c = flaw-ends _ _ _ (c .before .f .given .1) (c .before .before .before .before .before .count-fields .ensures)
-
-same-length-2 : tie.Need-same-length-2
-same-length-2 c = search needs
-
-same-length-3 : tie.Need-same-length-3
-same-length-3 c = search needs
+returns c = flaw-ends _ _ tt (c .before .f .given .1) (said (c .before .before .before))
 
 returns-2 : tie.Need-returns-2
-unfolding dataLine
-returns-2 c = good-goes _ _ _ (c .before .before .before .before .before .before .before .enum-told .given .1) (c .before .before .before .before .before .before .before .before .before .before .before .count-fields .ensures) (c .before .before .before .before .prologue-line .ensures)
+returns-2 c = let p = c .before .before in let d = p .before .before .before .before in let o = d .before .before .before in
+    good-goes _ _ tt (p .before .before .enum-told .given .1) (said d) (same-step _ _ (ap (λ n. dataGiven (take n (now (o .before .before .before .before .before .args .row)))) (used-is o)) (p .put-data .ensures))
 
 pub data-line-spec : {M : Type 1} → statement M
 data-line-spec =
     tie.close
     (tie.spec
-    count-fields-requires
-    enum-known-f
-    enum-told
-    prologue-line-requires
-    same-length
+    (λ c. search needs)
+    (λ c κs. search needs)
+    (λ c κs. search needs)
+    (λ c. search needs)
+    (λ c κs. search needs)
+    (λ c κs. search needs)
+    (λ c. search needs)
+    (λ c. search needs)
+    put-data-requires
     returns
-    same-length-2
-    same-length-3
+    (λ c. search needs)
     returns-2)

@@ -1,54 +1,71 @@
+use Rattle.read_first_line.specs.FirstLine.{firstFields, headLine, firstLine}
+use Rattle.read_first_line.specs.State.{headOf}
+use Rattle.read_first_line.specs.declared.Opening.{Opening}
+use Rattle.read_first_line.specs.declared.Opening.the-variants.{Flawed}
+use Rattle.read_columns.specs.declared.Flaw.{Flaw}
+use Rattle.read_columns.specs.Cases.{flawOf}
+use Rattle.units.specs.Answers.{refused, onward}
+use mathlib.Core.List.{List}
+use mathlib.Core.Path.{_≡_, sym, ap, _∙_}
+use Prim.Native.Nat.{ℕ, min}
+use lib.ListN.{getD}
+use Rattle.read_first_line.proofs.Steps.{stops, same-step}
+use Rattle.read_first_line.proofs.Fronts.{first-least, least-take}
 use denote.Ref.{now}
-use mathlib.Core.List.{[]}
-use lib.ListN.{take}
-use Rattle.read_columns.specs.Columns.{numbers}
-use Rattle.read_first_line.specs.FirstLine.{kindLine, firstLine}
-use Rattle.read_first_line.proofs.Steps.{stops, same-step, flaw-read, good-read}
+use native.Mathlib.Omega.{arith}
 use borrow.Author.Needs.{needs}
 use Rattle.read_first_line.proofs.first_line.Statement.{statement}
 use Rattle.read_first_line.proofs.first_line.Tie as tie
 
-read-numbers-requires : tie.Need-read-numbers-requires
-read-numbers-requires c κs = search needs
+-- what the fields say is what the line gives
+module _ (num held : ℕ) (l row : List ℕ) {o : Opening} where
+  flaw-line : {f : Flaw} → o ≡ Flawed f → headOf row o ≡ firstFields num l → refused (flawOf f) ≡ firstLine num held l
+  unfolding firstLine
+  flaw-line e said = rw (sym (sym (ap (headOf row) e) ∙ said))
 
-enum-known-f : tie.Need-enum-known-f
-enum-known-f c = search needs
+  head-line : {o′ : Opening} → o ≡ o′ → headOf row o ≡ firstFields num l → onward (headOf row o′) (λ h. headLine num held h) ≡ firstLine num held l
+  unfolding firstLine
+  head-line e said = ap (λ v. onward v (λ h. headLine num held h)) (sym (ap (headOf row) e) ∙ said)
 
-enum-told : tie.Need-enum-told
-enum-told c = search needs
-
-kind-line-requires : tie.Need-kind-line-requires
-kind-line-requires c κs = search needs
-
-same-length : tie.Need-same-length
-same-length c = search needs
+data-line-requires : tie.Need-data-line-requires
+data-line-requires c κs = let f = c .before .before .before .before .before .before in let s = f .before .before .before .before .before in let row = f .first-fields .last .1 .1 .0 in
+    (least-take (min (getD row 12 0) 20) row (first-least (s .args .num .0) (now (s .args .line)) _ (sym (ap (headOf _) (c .before .before .enum-told3 .given .1)) ∙ f .first-fields .ensures)), f .first-fields .kept .1 .1 .0 ∙ s .pre .0, s .pre .1)
 
 returns : tie.Need-returns
-unfolding firstLine
-returns c = let a = c .before .before .before .before .before .before .before .before .before .before .args in let num = a .num .0 in let held = a .held .0 in let l = now (a .line) in
-    stops (firstLine num held l) (c .before .f .given .0 .0) (flaw-read [] (kindLine num held l) (numbers num l 0 12) _ (c .before .f .given .1) (c .before .before .before .before .before .read-numbers .ensures))
-
-same-length-2 : tie.Need-same-length-2
-same-length-2 c = search needs
-
-same-length-3 : tie.Need-same-length-3
-same-length-3 c = search needs
+returns c = let f = c .before .before .before .before .before in stops _ _ (flaw-line _ _ _ _ (c .before .f .given .1) (f .first-fields .ensures))
 
 returns-2 : tie.Need-returns-2
-unfolding firstLine
-returns-2 c = let a = c .before .before .before .before .before .before .before .before .before .before .before .before .before .before .before .before .args in let num = a .num .0 in let held = a .held .0 in let l = now (a .line) in let row = c .before .before .before .before .before .before .before .before .before .before .before .read-numbers .last .1 .1 .1 .1 .0 in
-    same-step (kindLine num held l (take 12 row)) (firstLine num held l) (good-read [] (kindLine num held l) (numbers num l 0 12) (take 12 row) (c .before .before .before .before .before .before .before .enum-told .given .1) (c .before .before .before .before .before .before .before .before .before .before .before .read-numbers .ensures)) (c .before .before .before .before .kind-line .ensures)
+returns-2 c = let p = c .before .before in let f = p .before .before .before .before .before .before .before in
+    same-step _ _ (head-line _ _ _ _ (p .before .before .before .enum-told .given .1) (f .first-fields .ensures)) (p .cards-line .ensures)
+
+returns-3 : tie.Need-returns-3
+returns-3 c = let p = c .before .before in let f = p .before .before .before .before .before .before .before in
+    same-step _ _ (head-line _ _ _ _ (p .before .before .before .enum-told2 .given .1) (f .first-fields .ensures)) (p .cards-line2 .ensures)
+
+returns-4 : tie.Need-returns-4
+returns-4 c = let p = c .before .before in let f = p .before .before .before .before .before .before .before in
+    same-step _ _ (head-line _ _ _ _ (p .before .before .before .enum-told3 .given .1) (f .first-fields .ensures)) (p .data-line .ensures)
 
 pub first-line-spec : {M : Type 1} → statement M
 first-line-spec =
     tie.close
     (tie.spec
-    read-numbers-requires
-    enum-known-f
-    enum-told
-    kind-line-requires
-    same-length
+    (λ c κs. search needs)
+    (λ c. search needs)
+    (λ c. search needs)
+    (λ c κs. search needs)
+    (λ c. search needs)
+    (λ c κs. search needs)
+    (λ c. search needs)
+    data-line-requires
+    (λ c. search needs)
     returns
-    same-length-2
-    same-length-3
-    returns-2)
+    (λ c. search needs)
+    (λ c. search needs)
+    returns-2
+    (λ c. search needs)
+    (λ c. search needs)
+    returns-3
+    (λ c. search needs)
+    (λ c. search needs)
+    returns-4)

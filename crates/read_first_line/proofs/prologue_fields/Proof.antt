@@ -1,72 +1,50 @@
-use denote.Ref.{now}
-use mathlib.Core.Path.{_≡_, sym, ap, _∙_}
-use Prim.Native.Nat.{_+_, _-_, _*_}
-use native.Mathlib.Omega.{arith}
-use lib.ListN.{take}
-use Rattle.units.specs.Answers.{passed, onward}
+use Rattle.read_first_line.proofs.Steps.{told, flaw-read}
+use Rattle.read_first_line.proofs.Heads.{prologue-on, prologue-is}
+use Rattle.read_first_line.specs.FirstLine.{counts}
 use Rattle.read_columns.specs.Columns.{numbers, blankAfter}
+use Rattle.units.specs.Answers.{passed, onward}
+use denote.Ref.{now}
+use lib.ListN.{getD, take}
+use native.Mathlib.Omega.{arith}
+use Prim.Native.Nat.{_+_, _-_, _*_, _≤_, min}
+use mathlib.Core.Path.{_≡_, sym, ap, subst, _∙_}
+use mathlib.Core.List.{_++_}
 use Rattle.read_columns.specs.Cases.{checkedOf}
-use Rattle.read_first_line.proofs.Steps.{checked-on, flaw-read, good-read}
-use Rattle.read_first_line.proofs.Heads.{prologue-is}
 use borrow.Author.Needs.{needs}
 use Rattle.read_first_line.proofs.prologue_fields.Statement.{statement}
 use Rattle.read_first_line.proofs.prologue_fields.Tie as tie
 
--- back from one place to another
-abbrev start-before-blank-after : tie.After-blank-after → tie.Start
-start-before-blank-after c = c .before .before .before .before .before .before .before .before .before .before .before
+more-is : (c : tie.After-on-line) → c .on-line .result .0 ≡ min (getD (now (c .before .before .before .before .before .args .row)) 12 0) 20
+more-is c = c .on-line .ensures ∙ ap (λ k. min k 20) (c .before .words-said .ensures .0)
 
-abbrev read-numbers-before-blank-after : tie.After-blank-after → tie.After-read-numbers
-read-numbers-before-blank-after c = c .before .before .before .before .before .before
-
-sub-more : tie.Need-sub-more
-sub-more c = search needs
-
-read-numbers-requires : tie.Need-read-numbers-requires
-read-numbers-requires c κs = search needs
-
-enum-known-f : tie.Need-enum-known-f
-enum-known-f c = search needs
-
-enum-told : tie.Need-enum-told
-enum-told c = search needs
-
-columns-of-fields-requires : tie.Need-columns-of-fields-requires
-columns-of-fields-requires c κs = search needs
-
-blank-after-requires : tie.Need-blank-after-requires
-blank-after-requires c κs = search needs
-
-same-length : tie.Need-same-length
-same-length c = search needs
+-- the fields up to LPROL, at most 20, are read into the row
+said : (r : tie.After-read-numbers) → let s = r .before .before .before .before .before .before .before .before in let a = s .args in let used = min (getD (now (a .row)) 12 0) 20 in
+    checkedOf (take (16 + (used - 16)) (r .read-numbers .last .1 .1 .1 .1 .0)) (r .read-numbers .result) ≡ onward (numbers (a .num .0) (now (a .line)) 16 (used - 16)) (λ ws. passed (take 16 (now (a .row)) ++ ws))
+said r = let o = r .before .before .before in let a = o .before .before .before .before .before .args in
+    subst (λ n. checkedOf (take (16 + (n - 16)) (r .read-numbers .last .1 .1 .1 .1 .0)) (r .read-numbers .result) ≡ onward (numbers (a .num .0) (now (a .line)) 16 (n - 16)) (λ ws. passed (take 16 (now (a .row)) ++ ws))) (more-is o) (r .read-numbers .ensures)
 
 returns : tie.Need-returns
-returns c = let a = c .before .before .before .before .before .before .before .before .before .before .args in let num = a .num .0 in let l = now (a .line) in let n = a .used .0 in
-    flaw-read (take 16 (now (a .row))) (λ r. onward (blankAfter num l (6 * n)) (λ _. passed r)) (numbers num l 16 (n - 16)) _ (c .before .f .given .1) (c .before .before .before .before .before .read-numbers .ensures)
-    ∙ sym (prologue-is num l (now (a .row)) n (c .before .before .before .before .before .before .before .before .before .before .pre .0))
-
-same-length-2 : tie.Need-same-length-2
-same-length-2 c = search needs
+returns c = let r = c .before .before .before .before .before in let o = r .before .before .before in let a = o .before .before .before .before .before .args in let l = now (a .line) in let used = min (getD (now (a .row)) 12 0) 20 in
+    flaw-read (take 16 (now (a .row))) (λ ws. onward (blankAfter (a .num .0) l (6 * used)) (λ _. passed (counts ws))) (numbers (a .num .0) l 16 (used - 16)) _ (c .before .f .given .1) (said r)
+    ∙ sym (prologue-is (a .num .0) l (now (a .row)))
 
 returns-2 : tie.Need-returns-2
-returns-2 c = let a = start-before-blank-after c .args in let num = a .num .0 in let l = now (a .line) in let n = a .used .0 in let row = read-numbers-before-blank-after c .read-numbers .last .1 .1 .1 .1 .0 in
-    let e : c .before .columns-of-fields .result .0 ≡ 6 * n = omega (arith, c .before .columns-of-fields .ensures) in
-    let f : n ≡ 16 + (n - 16) = omega (arith, start-before-blank-after c .pre .1) in
-    checked-on (take n row) (c .blank-after .result) (blankAfter num l (6 * n)) (c .blank-after .ensures ∙ ap (blankAfter num l) e)
-    ∙ good-read (take 16 (now (a .row))) (λ r. onward (blankAfter num l (6 * n)) (λ _. passed r)) (numbers num l 16 (n - 16)) (take n row) (c .before .before .enum-told .given .1) (ap (λ k. checkedOf (take k row) (read-numbers-before-blank-after c .read-numbers .result)) f ∙ read-numbers-before-blank-after c .read-numbers .ensures)
-    ∙ sym (prologue-is num l (now (a .row)) n (start-before-blank-after c .pre .0))
+returns-2 c = let r = c .before .before .before .before .before .before in let s = r .before .before .before .before .before .before .before .before in let a = s .args in
+    prologue-on (a .num .0) (now (a .line)) (now (a .row)) (r .read-numbers .last .1 .1 .1 .1 .0) _ (s .pre .1) (omega (arith, s .pre .0)) (told _ (c .before .before .enum-told .given .1) (said r)) (c .data-blanks .ensures)
 
 pub prologue-fields-spec : {M : Type 1} → statement M
 prologue-fields-spec =
     tie.close
     (tie.spec
-    sub-more
-    read-numbers-requires
-    enum-known-f
-    enum-told
-    columns-of-fields-requires
-    blank-after-requires
-    same-length
+    (λ c. search needs)
+    (λ c κs. search needs)
+    (λ c κs. search needs)
+    (λ c. omega (arith, more-is (c .before), c .before .before .before .before .before .before .pre .1))
+    (λ c κs. let o = c .before .before in (omega (arith, more-is o, o .before .before .before .before .before .pre .1), o .before .before .before .before .before .pre .0))
+    (λ c. search needs)
+    (λ c. search needs)
+    (λ c κs. search needs)
+    (λ c. search needs)
     returns
-    same-length-2
+    (λ c. search needs)
     returns-2)

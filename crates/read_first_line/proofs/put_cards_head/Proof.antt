@@ -10,30 +10,6 @@ use borrow.Author.Needs.{needs}
 use Rattle.read_first_line.proofs.put_cards_head.Statement.{statement}
 use Rattle.read_first_line.proofs.put_cards_head.Tie as tie
 
-sub-left : tie.Need-sub-left
-sub-left c = search needs
-
-add-next : tie.Need-add-next
-add-next c = search needs
-
-add-next-2 : tie.Need-add-next-2
-add-next-2 c = search needs
-
-put-head-requires : tie.Need-put-head-requires
-put-head-requires c κs = search needs
-
-bytes-of-words-requires : tie.Need-bytes-of-words-requires
-bytes-of-words-requires c κs = search needs
-
-bytes-of-words-requires-2 : tie.Need-bytes-of-words-requires-2
-bytes-of-words-requires-2 c κs = search needs
-
-store-filling-requires : tie.Need-store-filling-requires
-store-filling-requires c κs = search needs
-
-same-length : tie.Need-same-length
-same-length c = search needs
-
 returns : tie.Need-returns
 returns c = let a = c .before .before .before .before .before .before .before .before .before .before .before .before .before .args in let pre = c .before .before .before .before .before .before .before .before .before .before .before .before .before .pre in let n = a .used .0 in let held = a .held .0 in
     let head = a .total .0 ∷ (a .kind ∷ slice 2 n (now (a .row))) in
@@ -47,12 +23,12 @@ pub put-cards-head-spec : {M : Type 1} → statement M
 put-cards-head-spec =
     tie.close
     (tie.spec
-    sub-left
-    add-next
-    add-next-2
-    put-head-requires
-    bytes-of-words-requires
-    bytes-of-words-requires-2
-    store-filling-requires
-    same-length
+    (λ c. search needs)
+    (λ c. search needs)
+    (λ c. search needs)
+    (λ c κs. search needs)
+    (λ c κs. search needs)
+    (λ c κs. search needs)
+    (λ c κs. search needs)
+    (λ c. search needs)
     returns)

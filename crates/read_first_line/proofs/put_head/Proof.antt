@@ -9,30 +9,6 @@ use borrow.Author.Needs.{needs}
 use Rattle.read_first_line.proofs.put_head.Statement.{statement}
 use Rattle.read_first_line.proofs.put_head.Tie as tie
 
-add-first : tie.Need-add-first
-add-first c = search needs
-
-add-second : tie.Need-add-second
-add-second c = search needs
-
-add-third : tie.Need-add-third
-add-third c = search needs
-
-saying-words-requires : tie.Need-saying-words-requires
-saying-words-requires c κs = search needs
-
-store-word-requires : tie.Need-store-word-requires
-store-word-requires c κs = search needs
-
-store-word-requires-2 : tie.Need-store-word-requires-2
-store-word-requires-2 c κs = search needs
-
-store-words-requires : tie.Need-store-words-requires
-store-words-requires c κs = search needs
-
-same-length : tie.Need-same-length
-same-length c = search needs
-
 returns : tie.Need-returns
 returns c = let f = c .before .before .before .before .before .before .before .before .before .before in let a = f .before .before .before .before .before .before .args in let held = a .held .0 in let ltot = f .before .before .saying-words in
     rw (← ltot .ensures)
@@ -44,12 +20,12 @@ pub put-head-spec : {M : Type 1} → statement M
 put-head-spec =
     tie.close
     (tie.spec
-    add-first
-    add-second
-    add-third
-    saying-words-requires
-    store-word-requires
-    store-word-requires-2
-    store-words-requires
-    same-length
+    (λ c. search needs)
+    (λ c. search needs)
+    (λ c. search needs)
+    (λ c κs. search needs)
+    (λ c κs. search needs)
+    (λ c κs. search needs)
+    (λ c κs. search needs)
+    (λ c. search needs)
     returns)

@@ -39,7 +39,7 @@ returns-2 : tie.Need-returns-2
 returns-2 c = let a = c .before .before .before .before .before .before .before .before .before .before .before .args in
     same-step _ _ (sym (card-is (a .num .0) (a .held .0) (now (a .line)) (toCome (a .p)) (toCome (c .before .before .before .before .before .before .before .one-card-less .result)) (c .before .before .before .before .before .before .before .one-card-less .ensures)))
     (good-goes _ _ tt (c .before .before .before .before .enum-told .given .1) (c .before .before .before .before .before .before .blank-after .ensures)
-    (record { is = passed-stand refl (ap (λ k. a .held .0 + k) (sym (card-size (now (a .line))))) (c .before .before .put-card .ensures); near = omega arith }))
+    (record { is = passed-stand refl (ap (λ k. a .held .0 + k) (sym (card-size (now (a .line))))) (c .before .before .put-card .ensures) }))
 
 pub card-line-spec : {M : Type 1} → statement M
 card-line-spec =

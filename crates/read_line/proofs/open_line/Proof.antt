@@ -25,7 +25,7 @@ ink-after-requires c κs = search needs
 returns : tie.Need-returns
 unfolding inState bytesOf
 returns c = let a = start-before-ink-after (c .before .before) .args in
-    record { is = rw (sym (c .before .before .ink-after .ensures)) (simp (eq-eqb (c .before .before .ink-after .result .0) 0 (c .if1 .taken)) (passed-stand (start-before-ink-after (c .before .before) .pre .0) (sym (add-zero (a .held .0))) refl)); near = omega arith }
+    record { is = rw (sym (c .before .before .ink-after .ensures)) (simp (eq-eqb (c .before .before .ink-after .result .0) 0 (c .if1 .taken)) (passed-stand (start-before-ink-after (c .before .before) .pre .0) (sym (add-zero (a .held .0))) refl)) }
 
 first-line-requires : tie.Need-first-line-requires
 first-line-requires c κs = search needs

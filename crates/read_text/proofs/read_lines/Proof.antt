@@ -1,20 +1,22 @@
-use Rattle.read_text.proofs.Loop.{near-next, Going, turn, end}
+use Rattle.read_text.proofs.Loop.{room-next, Reading, turn, end}
 use denote.Ref.{now}
 use mathlib.Core.Path.{_≡_, refl, sym, ap, _∙_}
 use mathlib.Core.List.{List, [], _∷_}
-use Prim.Native.Nat.{ℕ, _-_}
+use Prim.Native.Nat.{ℕ, _+_, _-_, _≤_}
 use native.Mathlib.Omega.{arith}
 use borrow.Author.Needs.{needs}
 use lib.ListN.{length, take, drop, drop-of-length-le}
 use Rattle.read_cut.specs.Lines.{linesIn}
 use Rattle.read_line.specs.Lines.{readLines}
 use Rattle.read_first_line.specs.State.{toCome, standOf}
+use Rattle.read_first_line.specs.FirstLine.{Shape}
 use Rattle.read_text.specs.Content.{stored}
+use Rattle.read_text.proofs.Opened.{wordsToCome}
 use Rattle.read_text.proofs.read_lines.Statement.{statement}
 use Rattle.read_text.proofs.read_lines.Tie as tie
 
 abbrev Inv-loop : tie.InvT-loop
-Inv-loop text block₀ row₀ plan₀ held₀ num₀ at₀ block row plan held num at = Going text block₀ block row (toCome plan) (held .0) num at
+Inv-loop text block₀ row₀ plan₀ held₀ num₀ at₀ block row plan held num at = Reading text block₀ block row (toCome plan) (held .0) num at
 
 abbrev μ-loop : tie.MeasureT-loop
 μ-loop text block₀ row₀ plan₀ held₀ num₀ at₀ block row plan held num at = length text - at
@@ -47,11 +49,16 @@ before : (c : tie.After-next-line Inv-loop μ-loop) → let l = c .before .befor
     stored (l .held .0) (l .block) (readLines (l .num) (l .held .0) (toCome (l .plan)) (line c ∷ others c)) ≡ stored 0 (now (start-before-next-line c .args .block)) (readLines 1 0 [] (linesIn (now (start-before-next-line c .args .text))))
 before c = let l = c .before .before .loop in ap (λ x. stored (l .held .0) (l .block) (readLines (l .num) (l .held .0) (toCome (l .plan)) x)) (sym (c .next-line .ensures .line .cut)) ∙ l .inv .same
 
+-- at the start nothing is held, and nothing is to come
+none-held : {rest : List Shape} → rest ≡ [] → 0 + wordsToCome rest ≤ 7998
+unfolding wordsToCome
+none-held e = rw e (omega arith)
+
 cards-only-requires : tie.Need-cards-only-requires Inv-loop μ-loop
 cards-only-requires c κs = tt
 
 loop-holds : tie.Need-loop-holds Inv-loop μ-loop
-loop-holds c = record { same = ap (λ r. stored 0 (now (c .before .before .before .args .block)) (readLines 1 0 r (linesIn (now (c .before .before .before .args .text))))) (c .cards-only .ensures); length-kept = refl; row-long = refl; lines-most = omega arith; words-most = omega arith }
+loop-holds c = record { same = ap (λ r. stored 0 (now (c .before .before .before .args .block)) (readLines 1 0 r (linesIn (now (c .before .before .before .args .text))))) (c .cards-only .ensures); length-kept = refl; row-long = refl; lines-most = omega arith; room = none-held (c .cards-only .ensures) }
 
 next-line-requires : tie.Need-next-line-requires Inv-loop μ-loop
 next-line-requires c κs = search needs
@@ -69,7 +76,7 @@ slice-aggregate-read-line : tie.Need-slice-aggregate-read-line Inv-loop μ-loop
 slice-aggregate-read-line c = sym (c .before .before .before .before .loop .inv .row-long)
 
 read-line-requires : tie.Need-read-line-requires Inv-loop μ-loop
-read-line-requires c κs = let g = c .before .before .before .before .before .loop .inv in (g .row-long, omega (arith, g .lines-most, g .words-most), c .before .before .before .next-line .ensures .plain)
+read-line-requires c κs = let g = c .before .before .before .before .before .loop .inv in (g .row-long, omega (arith, g .room), c .before .before .before .next-line .ensures .plain)
 
 enum-known-f : tie.Need-enum-known-f Inv-loop μ-loop
 enum-known-f c = search needs
@@ -99,7 +106,7 @@ loop-again c = let l = next-line-before-p (c .before) .before .before .loop in l
       length-kept = kept-block ∙ g .length-kept;
       row-long = kept-row ∙ g .row-long;
       lines-most = omega (arith, g .lines-most, next-line-before-p (c .before) .next-line .ensures .line .onward);
-      words-most = omega (arith, g .words-most, near-next (l .held .0) p n (read-line-before-p (c .before) .read-line .result) (c .before .p .given .1) (read-line-before-p (c .before) .read-line .ensures .near));
+      room = room-next (l .num) (l .held .0) (toCome (l .plan)) (line (next-line-before-p (c .before))) (l .block) b p n (omega (arith, g .lines-most, next-line-before-p (c .before) .before .loop-test .taken, start-before-next-line (next-line-before-p (c .before)) .pre)) (g .room) (ap (standOf b) (sym (c .before .p .given .1)) ∙ read-line-before-p (c .before) .read-line .ensures .is);
     }
 
 at-end-requires : tie.Need-at-end-requires Inv-loop μ-loop
