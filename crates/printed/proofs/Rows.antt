@@ -10,7 +10,6 @@ use Rattle.words.specs.Words.{word}
 use Rattle.record.specs.Lines.{lineCount}
 use Rattle.block.specs.Judging.{judged}
 use Rattle.block.specs.Records.{recordsOf}
-use Rattle.block.proofs.Placed.{Turn}
 use Rattle.prefix.specs.declared.Letters.{Letters}
 use Rattle.prefix.specs.Table.{prefixOf}
 use Rattle.report.specs.Text.{behind, lineOf}
@@ -47,13 +46,11 @@ unfolding rowOf lineOf
 row-pieces number before r =
     ap (λ l. decimalOf number ++ l) (behind-numbers (middle before r) (signedOf (word r 3) ∷ (lettersOf (prefixOf (word r 3)) ∷ [])))
 
--- the lines from a place on: that of the record that stands there, and the others
-pub rows-turn : {ws : List ℕ} {at place size : ℕ} {rs : List (List ℕ)} (number : ℕ) (t : Turn ws at place size rs) {r : List ℕ} → r ≡ t .first
-    → rowsOf number at rs ≡ rowOf number place r ++ rowsOf (number + 1) (at + size) (t .others)
+-- the line of a record of n words, and those of the records behind it
+pub rows-on : (number before n : ℕ) (r : List ℕ) (rs : List (List ℕ)) → n ≡ length r
+    → rowsOf number before (r ∷ rs) ≡ rowOf number before r ++ rowsOf (number + 1) (before + n) rs
 unfolding rowsOf
-rows-turn {ws} {at} {place} {size} {rs} number t {r} e =
-    let f : rowsOf number at rs ≡ rowOf number at (t .first) ++ rowsOf (number + 1) (at + length (t .first)) (t .others) = ap (rowsOf number at) (t .are) in
-    cc
+rows-on number before n r rs e = rw e
 
 module _ (b : List ℕ) where
   pub listing-accepted : (k : ℕ) → judged b ≡ passed k → listingOf b ≡ rowsOf 1 1 (recordsOf b)

@@ -1,6 +1,5 @@
 // What the programs print: the listing of a block, its lines, or the block of a text; or the line of a refusal.
 use block::Judged;
-use block::Place;
 use units::Bytes;
 use units::Words;
 ghost use mathlib.Core.List.{[], _∷_};
@@ -64,21 +63,14 @@ fn write_rows(block: &[u8], out: &mut [u8]) -> Bytes
     let mut number: u32 = 1;
     let mut to = Bytes(0);
     loop {
-        match block::step(block, Words(at)) {
-            Place::NoMore => return to,
-            Place::Record(place, size) => {
-                let next = at + size.0;
-                to = write_row(
-                    number,
-                    place,
-                    words::part(block, place, Words(next)),
-                    out,
-                    to,
-                );
-                at = next;
-                number += 1;
-            }
+        let whole = block::record_at(block, Words(at));
+        let n = words::count(whole).0;
+        if n == 0 {
+            return to;
         }
+        to = write_row(number, Words(at), whole, out, to);
+        at += n;
+        number += 1;
     }
 }
 
