@@ -24,11 +24,27 @@ use Rattle.report.specs.Refusal.{refusalLine, orRefusal}
 use Rattle.report.proofs.Lines.{printed-most}
 use Rattle.printed.specs.Printed.{Printed, linesPrinted, blockPrinted}
 
--- what is to be printed has room, is this text, and that was put in
-pub prints : {out whole text after : List ℕ} {end : ℕ} → Room out 0 whole → whole ≡ text → Put out 0 text after end → Printed out whole after end
-prints {out} {whole} {text} {after} {end} room is put =
-    let within : end ≤ length after = omega (arith, put .ends, ap length (put .bytes), length-sets out 0 text, ap length is) in
-    record { put = rw is put; within = within; counted = sym (length-take-le end after within) }
+-- what is to be printed is this text: it has room, and is printed once it is put in
+pub record Prints (out whole text : List ℕ) : Type 0 where
+  pub room : Room out 0 text
+  pub printed : {after : List ℕ} {end : ℕ} → Put out 0 text after end → Printed out whole after end
+
+pub prints : {out whole text : List ℕ} → Room out 0 whole → whole ≡ text → Prints out whole text
+prints {out} {whole} {text} h is =
+    record {
+      room = rw is at h;
+      printed = λ {after} {end} put.
+          let within : end ≤ length after = omega (arith, put .ends, ap length (put .bytes), length-sets out 0 text, ap length is) in
+          record { put = rw is put; within = within; counted = sym (length-take-le end after within) };
+    }
+
+-- what is made of what passed, or the line of a refusal
+module _ {A : Type 0} (f : A → List ℕ) {v : Verdict A} {out : List ℕ} (h : Room out 0 (orRefusal f v)) where
+  pub prints-passed : {x : A} → v ≡ passed x → Prints out (orRefusal f v) (f x)
+  prints-passed e = prints h (ap (orRefusal f) e)
+
+  pub prints-refused : {r s : Answer} → v ≡ refused r → s ≡ r → Prints out (orRefusal f v) (refusalLine s)
+  prints-refused e is = prints h (ap (orRefusal f) e ∙ ap refusalLine (sym is))
 
 pub lines-bound : (b : List ℕ) → Below 256 b → length (linesPrinted b) ≤ 55971
 unfolding linesPrinted

@@ -30,7 +30,7 @@ numbers-requires c κs = let a = c .before .before .before .before .before .befo
 
 returns : tie.Need-returns
 returns c = let n = c .before .before .before in let h = room (start-before-numbers n) in
-    prints h refl (block-put _ _ h (told n) (omega (arith, c .before .if1 .taken)))
+    prints h refl .printed (block-put _ _ h (told n) (omega (arith, c .before .if1 .taken)))
 
 write-refusal-requires : tie.Need-write-refusal-requires
 write-refusal-requires c κs = omega (arith, refusal-most (c .before .before .before .numbers .result))
@@ -38,7 +38,7 @@ write-refusal-requires c κs = omega (arith, refusal-most (c .before .before .be
 returns-2 : tie.Need-returns-2
 returns-2 c = let n = c .before .before .before .before .before .before in let h = room (start-before-numbers n) in
     let stays = block-refused _ _ h (told n) (c .before .before .before .before .if1 .left) in
-    prints h (stays .1) (rw (stays .0) at (c .before .before .write-refusal .ensures))
+    prints h (stays .1) .printed (rw (stays .0) at (c .before .before .write-refusal .ensures))
 
 pub print-block-spec : {M : Type 1} → statement M
 print-block-spec =
