@@ -1,5 +1,5 @@
 -- A loop over the records of an accepted block, each lent by `record_at`: what it keeps, and what a turn of it knows.
-use mathlib.Core.Path.{_≡_, ap, _∙_}
+use mathlib.Core.Path.{_≡_, sym, ap, _∙_}
 use mathlib.Core.List.{List, [], _∷_}
 use Prim.Native.Nat.{ℕ, _+_, _≤_, _<_}
 use native.Mathlib.Omega.{arith}
@@ -23,6 +23,7 @@ pub record Turn {b : List ℕ} {at : ℕ} {P : List (List ℕ) → Type 0} (l : 
   pub others : List (List ℕ)
   pub holds : P (wordsOf part ∷ others)
   pub ok : RecordOk (wordsOf part)
+  pub bytes : part ≡ bytesOf (wordsOf part)
   pub size : n ≡ length (wordsOf part)
   pub long : 16 ≤ n
   pub most : n ≤ mostRecordWords
@@ -55,6 +56,7 @@ module _ {b : List ℕ} {at : ℕ} {P : List (List ℕ) → Type 0} (l : Loop b 
             others = rs;
             holds = rw are h;
             ok = rw are (f .ok);
+            bytes = lent ∙ ap bytesOf (sym its-words);
             size = size;
             long = omega (arith, f .long);
             most = omega (arith, f .within, left .start, left .most);

@@ -9,7 +9,7 @@ use Rattle.units.specs.Choice.{if_then_else_}
 use Rattle.block.specs.declared.Place.{Place}
 use Rattle.block.specs.declared.Place.the-variants.{Record, NoMore}
 
--- a record with so many words before it and so many of its own
+-- a record with `at` words before it and `size` of its own
 abbrev pub recordAt : ℕ → ℕ → Place
 recordAt at size = Record (record { 0 = at }) (record { 0 = size })
 
@@ -24,7 +24,7 @@ abbrev pub wordsAt : List ℕ → Place → List ℕ
 wordsAt ws (Record at size) = slice (at .0) (at .0 + size .0) ws
 wordsAt ws NoMore = []
 
--- the record that stands behind so many words: no words where none does
+-- the record that stands behind `at` words: no words where none does
 abbrev pub recordFrom : List ℕ → ℕ → List ℕ
 recordFrom ws at = wordsAt ws (stepOf ws at)
 

@@ -145,7 +145,7 @@ pub fn record_at(block: &[u8], at: Words) -> &[u8]
     words::part(block, place, Words(end))
 }
 
-// Record `number` of the block, or no more where it has not so many.
+// Record `number` of the block, or no more where the block has fewer.
 pub fn find(block: &[u8], number: u16) -> Place
     ensures { λ r. ⌜ r ≡ findOf (wordsOf (now (block .entry))) 1 number ⌝ }
 {
