@@ -31,9 +31,6 @@ returns c = let l = c .before .before .before .before .before .before in
 add-at : tie.Need-add-at Inv-loop μ-loop
 add-at c = omega (arith, onward (c .before), length-wordsOf (now (c .before .before .before .before .before .before .before .before .before .args .inner)))
 
-loop-less : tie.Need-loop-less Inv-loop μ-loop
-loop-less c = omega (arith, onward (c .before))
-
 returns-2 : tie.Need-returns-2 Inv-loop μ-loop
 returns-2 c = all-judged (c .before .loop .inv) (c .before .before .count .ensures) (c .loop-test .left)
 
@@ -52,7 +49,7 @@ judge-records-spec =
     (λ c. search needs)
     add-at
     (λ c. omega arith)
-    loop-less
+    (λ c. omega (arith, onward (c .before)))
     (λ c. onward (c .before) .1)
     (λ c. omega arith)
     returns-2)

@@ -33,9 +33,6 @@ loop-holds : tie.Need-loop-holds Inv-loop μ-loop
 loop-holds c = let b = now (c .before .before .args .block) in
     loop-start b (all-below 256 b (λ i. omega (arith, c .before .shared-slice-known .given i))) (c .before .before .pre .0) (record { few = omega arith; going = start })
 
-same-length : tie.Need-same-length Inv-loop μ-loop
-same-length c = c .before .before .before .loop .inv .holds .going .kept
-
 returns : tie.Need-returns Inv-loop μ-loop
 unfolding rowsOf
 returns c = done (loop-end (c .before .before .before .loop .inv) (c .before .before .record-at .ensures) (c .before .count .ensures) (c .if1 .taken) .going) refl
@@ -43,15 +40,6 @@ returns c = done (loop-end (c .before .before .before .loop .inv) (c .before .be
 write-row-requires : tie.Need-write-row-requires Inv-loop μ-loop
 write-row-requires c κs = let t = found (c .before) in let l = c .before .before .before .before .loop in
     (omega (arith, t), t .ok, omega (arith, t .size, t .most), fits (t .holds .going) (rowOf (l .number) (l .at) (wordsOf (now (c .before .before .before .record-at .result)))) _ (rows-on _ _ _ _ (t .others) (t .size)) (c .before .before .before .before .before .before .before .pre .1))
-
-add-at : tie.Need-add-at Inv-loop μ-loop
-add-at c = omega (arith, found (c .before .before .before .before))
-
-add-number : tie.Need-add-number Inv-loop μ-loop
-add-number c = omega (arith, found (c .before .before .before .before))
-
-loop-less : tie.Need-loop-less Inv-loop μ-loop
-loop-less c = omega (arith, found (c .before .before .before .before))
 
 loop-again : tie.Need-loop-again Inv-loop μ-loop
 loop-again c = let t = found (c .before .before .before .before) in
@@ -66,10 +54,10 @@ write-rows-spec =
     loop-holds
     (λ c κs. tt)
     (λ c κs. tt)
-    same-length
+    (λ c. c .before .before .before .loop .inv .holds .going .kept)
     returns
     write-row-requires
-    add-at
-    add-number
-    loop-less
+    (λ c. omega (arith, found (c .before .before .before .before)))
+    (λ c. omega (arith, found (c .before .before .before .before)))
+    (λ c. omega (arith, found (c .before .before .before .before)))
     loop-again)

@@ -51,15 +51,6 @@ returns c = omega (arith, loop-end (c .before .before .before .loop .inv) (c .be
 record-size-requires : tie.Need-record-size-requires Inv-loop μ-loop
 record-size-requires c κs = let t = found c in (t .ok, omega (arith, t .size, t .most))
 
-add-bytes : tie.Need-add-bytes Inv-loop μ-loop
-add-bytes c = omega (arith, counted (c .before))
-
-add-at : tie.Need-add-at Inv-loop μ-loop
-add-at c = omega (arith, found (c .before .before))
-
-loop-less : tie.Need-loop-less Inv-loop μ-loop
-loop-less c = omega (arith, found (c .before .before))
-
 loop-again : tie.Need-loop-again Inv-loop μ-loop
 loop-again c = loop-on (found (c .before .before)) (counted (c .before))
 
@@ -74,7 +65,7 @@ text-size-spec =
     (λ c κs. tt)
     returns
     record-size-requires
-    add-bytes
-    add-at
-    loop-less
+    (λ c. omega (arith, counted (c .before)))
+    (λ c. omega (arith, found (c .before .before)))
+    (λ c. omega (arith, found (c .before .before)))
     loop-again)

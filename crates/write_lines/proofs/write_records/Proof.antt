@@ -28,9 +28,6 @@ loop-holds : tie.Need-loop-holds Inv-loop μ-loop
 loop-holds c = let b = now (c .before .before .args .block) in
     loop-start b (all-below 256 b (λ i. omega (arith, c .before .shared-slice-known .given i))) (c .before .before .pre .0) start
 
-same-length : tie.Need-same-length Inv-loop μ-loop
-same-length c = c .before .before .before .loop .inv .holds .kept
-
 returns : tie.Need-returns Inv-loop μ-loop
 unfolding textOf
 returns c = done (loop-end (c .before .before .before .loop .inv) (c .before .before .record-at .ensures) (c .before .count .ensures) (c .if1 .taken)) refl
@@ -39,12 +36,6 @@ write-record-requires : tie.Need-write-record-requires Inv-loop μ-loop
 unfolding textOf
 write-record-requires c κs = let t = found (c .before) in
     (t .ok, omega (arith, t .size, t .most), fits (t .holds) (ended (linesOf (wordsOf (now (c .before .before .before .record-at .result))))) (textOf (t .others)) refl (c .before .before .before .before .before .before .before .pre .1))
-
-add-at : tie.Need-add-at Inv-loop μ-loop
-add-at c = omega (arith, found (c .before .before .before .before))
-
-loop-less : tie.Need-loop-less Inv-loop μ-loop
-loop-less c = omega (arith, found (c .before .before .before .before))
 
 loop-again : tie.Need-loop-again Inv-loop μ-loop
 unfolding textOf
@@ -59,9 +50,9 @@ write-records-spec =
     loop-holds
     (λ c κs. tt)
     (λ c κs. tt)
-    same-length
+    (λ c. c .before .before .before .loop .inv .holds .kept)
     returns
     write-record-requires
-    add-at
-    loop-less
+    (λ c. omega (arith, found (c .before .before .before .before)))
+    (λ c. omega (arith, found (c .before .before .before .before)))
     loop-again)
