@@ -1,5 +1,5 @@
 -- Record n of a block: where it stands, and its words.
-use mathlib.Core.Path.{_≡_, refl, ap, _∙_}
+use mathlib.Core.Path.{_≡_, refl, ap}
 use mathlib.Core.Bool.{Bool, true, false, not, _||_}
 use mathlib.Core.Logic.{_⊎_, inl, inr}
 use mathlib.Core.List.{List, [], _∷_}
@@ -18,7 +18,7 @@ use Rattle.block.specs.Steps.{placed}
 use Rattle.block.specs.Judging.{judged}
 use Rattle.block.specs.Records.{recordsOf}
 use Rattle.block.specs.declared.Place.the-variants.{Record, NoMore}
-use Rattle.block.proofs.Placed.{others-left, step-record, turn}
+use Rattle.block.proofs.Placed.{others-left, first-left}
 use Rattle.amending.specs.Places.{recordIn, noRecord, valuePlace}
 use Rattle.amending.proofs.Named.{record-is}
 
@@ -90,16 +90,13 @@ module _ (b : List ℕ) (k : ℕ) (bytes : Below 256 b) (accepted : judged b ≡
       let i = n - 1 in
       let r = recordIn rs n in
       let split = split-at rs i [] (omega (arith, p .least, p .most)) in
-      let l = others-left b k bytes accepted (take i rs) (r ∷ drop (suc i) rs) split in
-      let step = step-record b k bytes accepted (take i rs) (drop (suc i) rs) r split in
-      let t = turn (wordsOf b) (1 + length (joined (take i rs))) (record { 0 = 1 + length (joined (take i rs)) }) (record { 0 = length r }) (r ∷ drop (suc i) rs) l step in
-      let it : t .first ≡ r = cc (t .are) in
+      let f = first-left (others-left b k bytes accepted (take i rs) (r ∷ drop (suc i) rs) split) in
       record {
         there = record-is rs n (p .least) (p .most);
         here = p .here;
-        words = rw (p .here, p .size-is) (t .words ∙ it);
-        long = rw (p .size-is) (t .long);
-        within = rw (p .here, p .size-is) (t .within);
+        words = rw (p .here, p .size-is) (f .words);
+        long = rw (p .size-is) (f .long);
+        within = rw (p .here, p .size-is) (f .within);
       }
 
 -- ---- the place of a value

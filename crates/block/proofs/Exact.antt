@@ -11,7 +11,7 @@ use lib.ListN.{length, getD, take, drop, drop-of-length-le, length-append, take-
 use lib.Seq.{slice, drop-nil, length-take-le, getD-take, length-slice, drop-append-seam, take-append-seam, take-at, getD-at, drop-cons}
 use Rattle.units.specs.Answers.{answer, Verdict, passed, refused}
 use Rattle.units.proofs.Verdicts.{never-passed, else-passed}
-use Rattle.words.specs.Words.{wordsOf, bytesOf, xorAll, word, joined, framed, All, Below}
+use Rattle.words.specs.Words.{wordsOf, bytesOf, xorAll, word, joined, framed, All, Below, mostRecordWords}
 use Rattle.words.proofs.Laws.{length-bytesOf, bytes-words, words-bytes, words-below}
 use Rattle.words.proofs.Lists.{all-take, all-drop}
 use Rattle.record.specs.Judging.{judgeRecord}
@@ -201,7 +201,7 @@ only-good b k h e =
     let ws = wordsOf b in
     let c = cut-of b k h f in
     let l = length-slice 1 (length ws - 1) ws (omega arith) in
-    let most : length (joined (recordsOf b)) ≤ 7998 = omega (arith, ap length (c .parts), f .size .most) in
+    let most : length (joined (recordsOf b)) ≤ mostRecordWords = omega (arith, ap length (c .parts), f .size .most) in
     let least : 1 ≤ length (joined (recordsOf b)) = omega (arith, ap length (c .parts), f .size .least) in (
       record {
         bytes = sym (bytes-words b (f .size .even) h) ∙ ap bytesOf (frame-is ws (omega (arith, f .size .least)) (f .first) (f .last) ∙ ap framed (sym (c .parts)));

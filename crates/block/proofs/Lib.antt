@@ -3,4 +3,5 @@ pub mod Walk
 pub mod Steps
 pub mod Exact
 pub mod Placed
+pub mod Loops
 pub mod Known

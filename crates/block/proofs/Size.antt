@@ -8,14 +8,14 @@ use borrow.Author.Tests.{ltb-false, eqb-true, not-false, le-ltb, eq-eqb}
 use lib.Dec.{ltb, eqb}
 use lib.ListN.{length}
 use Rattle.units.proofs.Verdicts.{or-off}
-use Rattle.words.specs.Words.{wordsOf}
+use Rattle.words.specs.Words.{wordsOf, mostWords}
 use Rattle.words.proofs.Laws.{length-wordsOf}
 use Rattle.block.specs.Judging.{wrongSize}
 
 pub record SizeRight (bytes words : ℕ) : Type 0 where
   pub even : bytes % 2 ≡ 0
   pub least : 18 ≤ words
-  pub most : words ≤ 8000
+  pub most : words ≤ mostWords
 
 pub size-right : (b : List ℕ) → wrongSize (length b) ≡ false → SizeRight (length b) (length (wordsOf b))
 unfolding wrongSize

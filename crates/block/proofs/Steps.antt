@@ -11,6 +11,7 @@ use lib.ListN.{length, getD, List·getD-eq-default}
 use Rattle.units.specs.Choice.{if_then_else_}
 use Rattle.units.proofs.Verdicts.{or-off}
 use Rattle.units.specs.declared.Words.{Words}
+use Rattle.block.specs.declared.Place.{Place}
 use Rattle.block.specs.declared.Place.the-variants.{Record, NoMore}
 use Rattle.block.specs.Steps.{recordAt, stepOf, past, findOf}
 
@@ -39,16 +40,17 @@ step-found ws at place size e = by (eqb (getD ws at 0) 0 || ltb (length ws - 1 -
         let some : 1 ≤ size .0 = omega (arith, eqb-false (getD ws at 0) 0 (o .0)) in
         record { here = sym p; some = some; within = omega (arith, ltb-false (length ws - 1 - at) (getD ws at 0) (o .1)) }
 
--- the first record from a place on is the one that stands there; for a later one the search goes on behind it
+-- the first record from a place on is the one that stands there
 pub find-first : (ws : List ℕ) (at i : ℕ) → i ≡ 1 → findOf ws at i ≡ stepOf ws at
 unfolding findOf
 find-first ws at i e = rw e refl
 
-pub find-on : (ws : List ℕ) (at i : ℕ) → 1 < i → findOf ws at i ≡ past (stepOf ws at) (λ next. findOf ws next (i - 1))
-unfolding findOf
-find-on ws at zero h = absurd (omega arith)
-find-on ws at (suc n) h = rw (ne-eqb n 0 (λ e. omega arith), sub-one)
-
 pub find-none : (ws : List ℕ) (at i : ℕ) → i ≡ 0 → NoMore ≡ findOf ws at i
 unfolding findOf
 find-none ws at i e = rw e refl
+
+-- for a later one the search goes on behind it, unless there is no more
+pub find-on : (ws : List ℕ) (at i : ℕ) {p : Place} → 1 < i → stepOf ws at ≡ p → findOf ws at i ≡ past p (λ next. findOf ws next (i - 1))
+unfolding findOf
+find-on ws at zero h e = absurd (omega arith)
+find-on ws at (suc n) h e = rw (ne-eqb n 0 (λ z. omega arith), sub-one, e)

@@ -40,7 +40,7 @@ judged b =
     else if not (eqb stored (checksumOf ws)) then refused (answer 3 0 0 (ones (bitXor stored (checksumOf ws))))
     else walk 0 1 (inner ws)
 
--- a block that is accepted, with so many records
+-- a block that is accepted, with `count` records
 pub record Accepted (b : List ℕ) : Type 0 where
   pub count : ℕ
   pub is : judged b ≡ passed count

@@ -5,7 +5,7 @@ use lib.ListN.{take}
 use Rattle.words.specs.Words.{wordsOf}
 use Rattle.block.specs.Judging.{inner}
 
--- the record words cut where each LTOT says, after so many words to skip
+-- the record words cut where each LTOT says, after `skip` words
 unfoldable pub cut : ℕ → List ℕ → List (List ℕ)
 cut skip [] = []
 cut zero (k ∷ ws) = take k (k ∷ ws) ∷ cut (k - 1) ws

@@ -3,7 +3,7 @@ use mathlib.Core.Path.{_≡_}
 use mathlib.Core.List.{List}
 use Prim.Native.Nat.{ℕ, _≤_}
 use lib.ListN.{length}
-use Rattle.words.specs.Words.{bytesOf, joined, framed, All}
+use Rattle.words.specs.Words.{bytesOf, joined, framed, All, mostRecordWords}
 use Rattle.record.specs.Rules.{RecordOk}
 
 -- the records' words end to end, length word and checksum around them, as bytes
@@ -15,4 +15,4 @@ pub record IsBlock (b : List ℕ) (rs : List (List ℕ)) : Type 0 where
   pub bytes : b ≡ blockOf rs
   pub each : All RecordOk rs
   pub some : 1 ≤ length rs
-  pub most : length (joined rs) ≤ 7998
+  pub most : length (joined rs) ≤ mostRecordWords

@@ -4,11 +4,12 @@ use mathlib.Core.List.{List, [], _∷_}
 use mathlib.Core.Bool.{_||_}
 use lib.Dec.{ltb, eqb}
 use lib.ListN.{length, getD}
+use lib.Seq.{slice}
 use Rattle.units.specs.Choice.{if_then_else_}
 use Rattle.block.specs.declared.Place.{Place}
 use Rattle.block.specs.declared.Place.the-variants.{Record, NoMore}
 
--- a record with so many words before it and so many of its own
+-- a record with `at` words before it and `size` of its own
 abbrev pub recordAt : ℕ → ℕ → Place
 recordAt at size = Record (record { 0 = at }) (record { 0 = size })
 
@@ -17,6 +18,15 @@ unfoldable pub stepOf : List ℕ → ℕ → Place
 stepOf ws at =
     if eqb (getD ws at 0) 0 || ltb (length ws - 1 - at) (getD ws at 0) then NoMore
     else recordAt at (getD ws at 0)
+
+-- the words at a place: none where there is no more
+abbrev pub wordsAt : List ℕ → Place → List ℕ
+wordsAt ws (Record at size) = slice (at .0) (at .0 + size .0) ws
+wordsAt ws NoMore = []
+
+-- the record that stands behind `at` words: no words where none does
+abbrev pub recordFrom : List ℕ → ℕ → List ℕ
+recordFrom ws at = wordsAt ws (stepOf ws at)
 
 -- on from a record to the place after it
 abbrev pub past : Place → (ℕ → Place) → Place

@@ -7,10 +7,10 @@ use units::Words;
 ghost use mathlib.Core.Path.{_≡_};
 ghost use Prim.Native.Nat.{_<_, _≤_};
 ghost use lib.ListN.{length};
-ghost use Rattle.words.specs.Words.{wordsOf};
+ghost use Rattle.words.specs.Words.{wordsOf, bytesOf, mostWords};
 ghost use Rattle.block.specs.Judging.{wrongSize, walk, judged};
 ghost use Rattle.block.specs.Cases.{refusalOf, judgedOf, answerOf};
-ghost use Rattle.block.specs.Steps.{stepOf, findOf};
+ghost use Rattle.block.specs.Steps.{stepOf, recordFrom, findOf};
 
 // Why a block is refused: its frame, or one of its records.
 pub enum Refusal {
@@ -48,7 +48,7 @@ fn wrong_size(size: Bytes) -> bool
 
 // The records of a block, which fill the words between its first and its last.
 fn judge_records(inner: &[u8]) -> Judged
-    requires { ⌜ length (wordsOf (now inner)) ≤ 8000 ⌝ }
+    requires { ⌜ length (wordsOf (now inner)) ≤ mostWords ⌝ }
     ensures { λ r. ⌜ judgedOf r ≡ walk 0 1 (wordsOf (now (inner .entry))) ⌝ }
 {
     let last = words::count(inner);
@@ -134,7 +134,18 @@ pub fn step(block: &[u8], at: Words) -> Place
     Place::Record(at, size)
 }
 
-// Record `number` of the block, or no more where it has not so many.
+// The record with `at` words of the block before it, lent as a part of the block; an empty part where none stands there.
+pub fn record_at(block: &[u8], at: Words) -> &[u8]
+    ensures { λ r. ⌜ now r ≡ bytesOf (recordFrom (wordsOf (now (block .entry))) (at .0)) ⌝ }
+{
+    let Place::Record(place, size) = step(block, at) else {
+        return &block[..0];
+    };
+    let end = place.0 + size.0;
+    words::part(block, place, Words(end))
+}
+
+// Record `number` of the block, or no more where the block has fewer.
 pub fn find(block: &[u8], number: u16) -> Place
     ensures { λ r. ⌜ r ≡ findOf (wordsOf (now (block .entry))) 1 number ⌝ }
 {

@@ -4,12 +4,12 @@ use mathlib.Core.List.{List}
 use Prim.Native.Nat.{ℕ, _+_, _≤_}
 use native.Mathlib.Omega.{arith}
 use lib.ListN.{length}
-use lib.Seq.{sets}
+use lib.Seq.{sets, length-sets, length-take-le}
 use Rattle.units.specs.declared.Answer.{Answer}
 use Rattle.units.specs.Answers.{answer, Verdict, passed, refused, onward}
 use Rattle.words.specs.Words.{bytesOf, framed, Below}
 use Rattle.words.specs.Outcomes.{written, leaves}
-use Rattle.words.specs.Writing.{Put}
+use Rattle.words.specs.Writing.{Room, Put}
 use Rattle.words.proofs.Writing.{all-written}
 use Rattle.words.proofs.Sealing.{length-framed}
 use Rattle.block.specs.Judging.{judged}
@@ -22,23 +22,33 @@ use Rattle.read_text.specs.Cases.{TextRow}
 use Rattle.read_text.proofs.Known.{WordsFit, text-known, words-room}
 use Rattle.report.specs.Refusal.{refusalLine, orRefusal}
 use Rattle.report.proofs.Lines.{printed-most}
-use Rattle.printed.specs.Printed.{linesPrinted, blockPrinted}
+use Rattle.printed.specs.Printed.{Printed, linesPrinted, blockPrinted}
 
--- ---- the lines of a block
+-- what is to be printed is this text: it has room, and is printed once it is put in
+pub record Prints (out whole text : List ℕ) : Type 0 where
+  pub room : Room out 0 text
+  pub printed : {after : List ℕ} {end : ℕ} → Put out 0 text after end → Printed out whole after end
 
-pub lines-accepted : (b : List ℕ) (k : ℕ) → judged b ≡ passed k → linesPrinted b ≡ textOf (recordsOf b)
-unfolding linesPrinted
-lines-accepted b k e = rw e
+pub prints : {out whole text : List ℕ} → Room out 0 whole → whole ≡ text → Prints out whole text
+prints {out} {whole} {text} h is =
+    record {
+      room = rw is at h;
+      printed = λ {after} {end} put.
+          let within : end ≤ length after = omega (arith, put .ends, ap length (put .bytes), length-sets out 0 text, ap length is) in
+          record { put = rw is put; within = within; counted = sym (length-take-le end after within) };
+    }
 
-pub lines-refused : (b : List ℕ) (r : Answer) → judged b ≡ refused r → linesPrinted b ≡ refusalLine r
-unfolding linesPrinted
-lines-refused b r e = rw e
+-- what is made of what passed, or the line of a refusal
+module _ {A : Type 0} (f : A → List ℕ) {v : Verdict A} {out : List ℕ} (h : Room out 0 (orRefusal f v)) where
+  pub prints-passed : {x : A} → v ≡ passed x → Prints out (orRefusal f v) (f x)
+  prints-passed e = prints h (ap (orRefusal f) e)
+
+  pub prints-refused : {r s : Answer} → v ≡ refused r → s ≡ r → Prints out (orRefusal f v) (refusalLine s)
+  prints-refused e is = prints h (ap (orRefusal f) e ∙ ap refusalLine (sym is))
 
 pub lines-bound : (b : List ℕ) → Below 256 b → length (linesPrinted b) ≤ 55971
 unfolding linesPrinted
 lines-bound b h = printed-most (λ _. textOf (recordsOf b)) 55971 (omega arith) (judged b) (λ k e. text-bound b h (record { count = k; is = e }))
-
--- ---- the block of a text
 
 -- the bytes of a block
 abbrev blockOf : List ℕ → List ℕ
@@ -48,28 +58,29 @@ pub block-bound : (t : List ℕ) → length (blockPrinted t) ≤ 16000
 unfolding blockPrinted
 block-bound t = printed-most blockOf 16000 (omega arith) (readText t) (λ ws e. omega (arith, length-framed ws, words-room t ws e))
 
-module _ (t out : List ℕ) (h : 16000 ≤ length out) (r : Answer) (after : List ℕ) where
-  -- the outcome for what is read of the text
+-- lines to block, into a buffer that has room
+module _ (t out : List ℕ) (room : Room out 0 (blockPrinted t)) {r : Answer} {after : List ℕ} (e : leaves r after ≡ toBlock t out) where
+  -- the outcome, by what is read of the text
   abbrev From : Verdict (List ℕ) → Type 0
   From v = leaves r after ≡ written out (onward v (λ ws. passed (blockOf ws)))
 
-  -- a block has room, and is put in
-  put-in : (ws : List ℕ) → WordsFit 0 ws → From (passed ws) → leaves r after ≡ leaves (answer 0 (0 + length (blockOf ws)) 0 0) (sets out 0 (blockOf ws))
-  put-in ws k e = e ∙ sym (all-written out (blockOf ws) (omega (arith, length-framed ws, k .most)) (record { ends = refl; bytes = refl }))
+  all-in : (ws : List ℕ) → From (passed ws) → Room out 0 (blockOf ws) → leaves r after ≡ leaves (answer 0 (0 + length (blockOf ws)) 0 0) (sets out 0 (blockOf ws))
+  all-in ws f h = f ∙ sym (all-written out (blockOf ws) (omega arith) (record { ends = refl; bytes = refl }))
 
-  pub block-accepted : leaves r after ≡ toBlock t out → r .n ≡ 0 → Put out 0 (blockPrinted t) after (r .a)
+  -- with 0 the block was put in
+  pub block-put : r .n ≡ 0 → Put out 0 (blockPrinted t) after (r .a)
   unfolding toBlock written blockPrinted
-  block-accepted e none = by (readText t) (text-known t) e
+  block-put none = by (readText t) (text-known t) e room
     where
-      by : (v : Verdict (List ℕ)) → Known TextRow (WordsFit 0) v → From v → Put out 0 (orRefusal blockOf v) after (r .a)
-      by (passed ws) k e = let w = put-in ws k e in record { ends = ap (λ x. x .answer .a) w; bytes = ap (λ x. x .out) w }
-      by (refused s) k e = absurd (omega (arith, ap (λ x. x .answer .n) e, k .listed))
+      by : (v : Verdict (List ℕ)) → Known TextRow (WordsFit 0) v → From v → Room out 0 (orRefusal blockOf v) → Put out 0 (orRefusal blockOf v) after (r .a)
+      by (passed ws) k f h = let w = all-in ws f h in record { ends = ap (λ x. x .answer .a) w; bytes = ap (λ x. x .out) w }
+      by (refused s) k f h = absurd (omega (arith, ap (λ x. x .answer .n) f, k .listed))
 
-  -- the line goes into the buffer as it was lent
-  pub block-refused : {last : List ℕ} {next : ℕ} → leaves r after ≡ toBlock t out → (r .n ≡ 0 → ⊥) → Put after 0 (refusalLine r) last next → Put out 0 (blockPrinted t) last next
+  -- with a refusal the buffer is as it was, and the line of the refusal is to be printed
+  pub block-refused : (r .n ≡ 0 → ⊥) → (after ≡ out) × (blockPrinted t ≡ refusalLine r)
   unfolding toBlock written blockPrinted
-  block-refused {last} {next} e some p = by (readText t) (text-known t) e
+  block-refused some = by (readText t) e room
     where
-      by : (v : Verdict (List ℕ)) → Known TextRow (WordsFit 0) v → From v → Put out 0 (orRefusal blockOf v) last next
-      by (passed ws) k e = absurd (some (ap (λ x. x .answer .n) (put-in ws k e)))
-      by (refused s) k e = rw (sym (ap (λ x. x .out) e), sym (ap (λ x. x .answer) e)) p
+      by : (v : Verdict (List ℕ)) → From v → Room out 0 (orRefusal blockOf v) → (after ≡ out) × (orRefusal blockOf v ≡ refusalLine r)
+      by (passed ws) f h = absurd (some (ap (λ x. x .answer .n) (all-in ws f h)))
+      by (refused s) f h = (ap (λ x. x .out) f, ap (λ x. refusalLine (x .answer)) (sym f))

@@ -4,20 +4,14 @@ use mathlib.Core.List.{List, [], _∷_, _++_}
 use Prim.Native.Nat.{ℕ, _+_, _-_, _≤_, _<_}
 use borrow.Author.Tests.{lt-ltb, le-ltb}
 use lib.ListN.{length}
-use Rattle.units.specs.declared.Answer.{Answer}
-use Rattle.units.specs.Answers.{passed, refused}
 use Rattle.words.specs.Words.{word}
 use Rattle.record.specs.Lines.{lineCount}
-use Rattle.block.specs.Judging.{judged}
-use Rattle.block.specs.Records.{recordsOf}
-use Rattle.block.proofs.Placed.{Turn}
 use Rattle.prefix.specs.declared.Letters.{Letters}
 use Rattle.prefix.specs.Table.{prefixOf}
 use Rattle.report.specs.Text.{behind, lineOf}
 use Rattle.report.specs.Decimal.{decimalOf, spaced}
-use Rattle.report.specs.Refusal.{refusalLine, orRefusal}
 use Rattle.report.proofs.Lines.{behind-numbers}
-use Rattle.printed.specs.Listing.{signedOf, lettersOf, rowOf, rowsOf, listingOf}
+use Rattle.printed.specs.Listing.{signedOf, lettersOf, rowOf, rowsOf}
 
 pub signed-plain : (w : ℕ) → w < 32768 → signedOf w ≡ decimalOf w
 unfolding signedOf
@@ -47,19 +41,8 @@ unfolding rowOf lineOf
 row-pieces number before r =
     ap (λ l. decimalOf number ++ l) (behind-numbers (middle before r) (signedOf (word r 3) ∷ (lettersOf (prefixOf (word r 3)) ∷ [])))
 
--- the lines from a place on: that of the record that stands there, and the others
-pub rows-turn : {ws : List ℕ} {at place size : ℕ} {rs : List (List ℕ)} (number : ℕ) (t : Turn ws at place size rs) {r : List ℕ} → r ≡ t .first
-    → rowsOf number at rs ≡ rowOf number place r ++ rowsOf (number + 1) (at + size) (t .others)
+-- the line of a record of n words, and those of the records behind it
+pub rows-on : (number before n : ℕ) (r : List ℕ) (rs : List (List ℕ)) → n ≡ length r
+    → rowsOf number before (r ∷ rs) ≡ rowOf number before r ++ rowsOf (number + 1) (before + n) rs
 unfolding rowsOf
-rows-turn {ws} {at} {place} {size} {rs} number t {r} e =
-    let f : rowsOf number at rs ≡ rowOf number at (t .first) ++ rowsOf (number + 1) (at + length (t .first)) (t .others) = ap (rowsOf number at) (t .are) in
-    cc
-
-module _ (b : List ℕ) where
-  pub listing-accepted : (k : ℕ) → judged b ≡ passed k → listingOf b ≡ rowsOf 1 1 (recordsOf b)
-  unfolding listingOf
-  listing-accepted k e = ap (orRefusal (λ _. rowsOf 1 1 (recordsOf b))) e
-
-  pub listing-refused : (r : Answer) → judged b ≡ refused r → listingOf b ≡ refusalLine r
-  unfolding listingOf
-  listing-refused r e = ap (orRefusal (λ _. rowsOf 1 1 (recordsOf b))) e
+rows-on number before n r rs e = rw e

@@ -1,18 +1,16 @@
--- How long a listing is at most, and how many lines a good record has at most.
+-- How long a listing is at most.
 use mathlib.Core.Path.{_≡_, ap}
 use mathlib.Core.Bool.{Bool, true, false}
 use mathlib.Core.List.{List, [], _∷_, _++_}
 use Prim.Native.Nat.{ℕ, _+_, _-_, _*_, _≤_, _<_}
-use native.Mathlib.Nat.{mul-le-mul-right}
 use native.Mathlib.Omega.{arith}
-use lib.Dec.{ltb, eqb}
+use lib.Dec.{ltb}
 use lib.ListN.{length, length-append}
 use Rattle.units.specs.Choice.{if_then_else_}
-use Rattle.units.specs.Units.{linesOfFields}
 use Rattle.units.specs.Answers.{passed}
-use Rattle.words.specs.Words.{word, joined, All, Below}
+use Rattle.words.specs.Words.{word, joined, All, Below, mostWords}
 use Rattle.record.specs.Lines.{lineCount}
-use Rattle.record.specs.Rules.{DataOk, KindOk, catalogue, header, dataRecord, RecordOk}
+use Rattle.record.specs.Rules.{RecordOk}
 use Rattle.block.specs.Judging.{judged}
 use Rattle.block.specs.Records.{recordsOf}
 use Rattle.block.proofs.Exact.{ok-long, only-good}
@@ -23,25 +21,6 @@ use Rattle.report.proofs.Lines.{spaced-most, printed-most}
 use Rattle.printed.specs.Listing.{signedOf, rowOf, rowsOf, listingOf}
 use Rattle.printed.proofs.Rows.{ending, closing, ending-pieces, middle, row-pieces}
 
--- a line has a word or more
-pub lines-most : (r : List ℕ) → RecordOk r → lineCount r ≤ length r
-unfolding lineCount
-lines-most r h = by (h .kind)
-  where
-    of-cards : eqb (word r 2) 1002 ≡ false → lineCount r ≤ length r
-    of-cards e = simp e (omega arith)
-
-    of-data : eqb (word r 2) 1002 ≡ true → DataOk r → lineCount r ≤ length r
-    of-data e d =
-        let sum = d .sum in
-        let rows : linesOfFields (word r 15) * (word r 16 + 1) ≤ word r 15 * (word r 16 + 1) = mul-le-mul-right (word r 16 + 1) (omega arith) in
-        simp e (omega arith)
-
-    by : KindOk r → lineCount r ≤ length r
-    by (catalogue e c) = of-cards (ap (λ k. eqb k 1002) e)
-    by (header e c) = of-cards (ap (λ k. eqb k 1002) e)
-    by (dataRecord e d) = of-data (ap (λ k. eqb k 1002) e) d
-
 signed-most : (w : ℕ) → length (signedOf w) ≤ 11
 unfolding signedOf
 signed-most w = by (ltb w 32768)
@@ -50,7 +29,7 @@ signed-most w = by (ltb w 32768)
     by true = omega (arith, most-digits w)
     by false = omega (arith, most-digits (65536 - w))
 
-row-most : (number before : ℕ) (r : List ℕ) → number < 8000 → before < 8000 → length (rowOf number before r) ≤ 64
+row-most : (number before : ℕ) (r : List ℕ) → number < mostWords → before < mostWords → length (rowOf number before r) ≤ 64
 unfolding spaced
 row-most number before r hn hb =
     let w = word r 3 in
@@ -70,7 +49,7 @@ row-most number before r hn hb =
     )
 
 -- a record has 16 words or more, so its line has at most four bytes for each
-rows-most : (number before : ℕ) (rs : List (List ℕ)) → All RecordOk rs → number ≤ before → before + length (joined rs) < 8000
+rows-most : (number before : ℕ) (rs : List (List ℕ)) → All RecordOk rs → number ≤ before → before + length (joined rs) < mostWords
     → length (rowsOf number before rs) ≤ 4 * length (joined rs)
 unfolding rowsOf joined
 rows-most number before [] h n b = omega arith
@@ -84,7 +63,7 @@ rows-most number before (r ∷ rs) h n b =
       rows-most (number + 1) (before + length r) rs (h .1) (omega arith) (omega arith),
     )
 
-pub rows-bound : (b : List ℕ) (k : ℕ) → Below 256 b → judged b ≡ passed k → length (rowsOf 1 1 (recordsOf b)) ≤ 32768
+rows-bound : (b : List ℕ) (k : ℕ) → Below 256 b → judged b ≡ passed k → length (rowsOf 1 1 (recordsOf b)) ≤ 32768
 rows-bound b k h e =
     let g = only-good b k h e .0 in
     omega (arith, rows-most 1 1 (recordsOf b) (g .each) (omega arith) (omega (arith, g .most)), g .most)

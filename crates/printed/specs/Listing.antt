@@ -22,7 +22,7 @@ signedOf w = if ltb w 32768 then decimalOf w else 45 ∷ decimalOf (65536 - w)
 abbrev pub lettersOf : Letters → List ℕ
 lettersOf l = l .0 ∷ l .1 ∷ l .2 ∷ []
 
--- "number, position of its first word in the block, kind, words, lines, instrument, prefix; one space between; LF after": so many words stand before it
+-- "number, position of its first word in the block, kind, words, lines, instrument, prefix; one space between; LF after": `before` words stand before it
 unfoldable pub rowOf : ℕ → ℕ → List ℕ → List ℕ
 rowOf number before r =
     lineOf

@@ -1,12 +1,11 @@
 // What the programs print: the listing of a block, its lines, or the block of a text; or the line of a refusal.
 use block::Judged;
-use block::Place;
 use units::Bytes;
 use units::Words;
 ghost use mathlib.Core.List.{[], _∷_};
 ghost use Prim.Native.Nat.{_≤_, _<_};
 ghost use lib.ListN.{length};
-ghost use Rattle.words.specs.Words.{wordsOf};
+ghost use Rattle.words.specs.Words.{wordsOf, mostWords, mostRecordWords};
 ghost use Rattle.words.specs.Writing.{Room, Put};
 ghost use Rattle.record.specs.Rules.{RecordOk};
 ghost use Rattle.block.specs.Judging.{Accepted};
@@ -14,7 +13,7 @@ ghost use Rattle.block.specs.Records.{recordsOf};
 ghost use Rattle.prefix.specs.Table.{prefixOf};
 ghost use Rattle.report.specs.Text.{behind};
 ghost use Rattle.printed.specs.Listing.{signedOf, lettersOf, rowOf, rowsOf, listingOf};
-ghost use Rattle.printed.specs.Printed.{linesPrinted, blockPrinted};
+ghost use Rattle.printed.specs.Printed.{Printed, linesPrinted, blockPrinted};
 
 // Puts the number that a word stands for in two's complement.
 fn write_signed(w: u16, out: &mut [u8], at: Bytes) -> Bytes
@@ -42,7 +41,7 @@ fn write_instrument(w: u16, out: &mut [u8], at: Bytes) -> Bytes
 
 // Puts the line of a good record.
 fn write_row(number: u32, before: Words, whole: &[u8], out: &mut [u8], at: Bytes) -> Bytes
-    requires { ⌜ (before .0 < 8000) × RecordOk (wordsOf (now whole)) × (length (wordsOf (now whole)) ≤ 8000) × Room (now out) (at .0) (rowOf number (before .0) (wordsOf (now whole))) ⌝ }
+    requires { ⌜ (before .0 < mostWords) × RecordOk (wordsOf (now whole)) × (length (wordsOf (now whole)) ≤ mostRecordWords) × Room (now out) (at .0) (rowOf number (before .0) (wordsOf (now whole))) ⌝ }
     ensures { λ r. ⌜ Put (now (out .entry)) (at .0) (rowOf number (before .0) (wordsOf (now (whole .entry)))) (now (out .exit)) (r .0) ⌝ }
 {
     let position = (before.0 + 1) as u32;
@@ -64,28 +63,21 @@ fn write_rows(block: &[u8], out: &mut [u8]) -> Bytes
     let mut number: u32 = 1;
     let mut to = Bytes(0);
     loop {
-        match block::step(block, Words(at)) {
-            Place::NoMore => return to,
-            Place::Record(place, size) => {
-                let next = at + size.0;
-                to = write_row(
-                    number,
-                    place,
-                    words::part(block, place, Words(next)),
-                    out,
-                    to,
-                );
-                at = next;
-                number += 1;
-            }
+        let whole = block::record_at(block, Words(at));
+        let n = words::count(whole).0;
+        if n == 0 {
+            return to;
         }
+        to = write_row(number, Words(at), whole, out, to);
+        at += n;
+        number += 1;
     }
 }
 
 // Puts the listing of a block, which is never longer than 32,768 bytes.
 pub fn print_listing(block: &[u8], out: &mut [u8]) -> Bytes
     requires { ⌜ 32768 ≤ length (now out) ⌝ }
-    ensures { λ r. ⌜ Put (now (out .entry)) 0 (listingOf (now (block .entry))) (now (out .exit)) (r .0) ⌝ }
+    ensures { λ r. ⌜ Printed (now (out .entry)) (listingOf (now (block .entry))) (now (out .exit)) (r .0) ⌝ }
 {
     match block::judge(block) {
         Judged::Records(_) => write_rows(block, out),
@@ -96,7 +88,7 @@ pub fn print_listing(block: &[u8], out: &mut [u8]) -> Bytes
 // Writes the lines of a block, or the line of its refusal, into a text that has room for any.
 pub fn print_lines(block: &[u8], out: &mut [u8]) -> Bytes
     requires { ⌜ 55971 ≤ length (now out) ⌝ }
-    ensures { λ r. ⌜ Put (now (out .entry)) 0 (linesPrinted (now (block .entry))) (now (out .exit)) (r .0) ⌝ }
+    ensures { λ r. ⌜ Printed (now (out .entry)) (linesPrinted (now (block .entry))) (now (out .exit)) (r .0) ⌝ }
 {
     match block::judge(block) {
         Judged::Records(_) => write_lines::write_records(block, out),
@@ -107,7 +99,7 @@ pub fn print_lines(block: &[u8], out: &mut [u8]) -> Bytes
 // Writes the block of a text, or the line of its refusal, into a buffer that has room for any.
 pub fn print_block(text: &[u8], out: &mut [u8]) -> Bytes
     requires { ⌜ 16000 ≤ length (now out) ⌝ }
-    ensures { λ r. ⌜ Put (now (out .entry)) 0 (blockPrinted (now (text .entry))) (now (out .exit)) (r .0) ⌝ }
+    ensures { λ r. ⌜ Printed (now (out .entry)) (blockPrinted (now (text .entry))) (now (out .exit)) (r .0) ⌝ }
 {
     let told = read_text::numbers(read_text::to_block(text, out));
     if told.n == 0 {

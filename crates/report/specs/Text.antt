@@ -4,7 +4,7 @@ use Prim.Native.Char.{code}
 use Prim.Native.String.{String, charAt, len}
 use mathlib.Core.List.{List, [], _∷_, _++_}
 
--- so many bytes of a text from a place on
+-- n bytes of a text from a place on
 unfoldable pub bytesFrom : ℕ → ℕ → String → List ℕ
 bytesFrom at zero s = []
 bytesFrom at (suc n) s = code (charAt s at) ∷ bytesFrom (at + 1) n s

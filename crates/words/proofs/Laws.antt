@@ -1,12 +1,12 @@
 -- Bytes, the words that they make, and parts of both.
 use mathlib.Core.Path.{_≡_, refl, sym, ap, _∙_}
-use Prim.Native.Nat.{ℕ, zero, suc, _+_, _*_, _/_, _%_, _<_}
+use Prim.Native.Nat.{ℕ, zero, suc, _+_, _*_, _/_, _%_, _≤_, _<_}
 use mathlib.Core.List.{List, [], _∷_, _++_, append-assoc}
 use native.Mathlib.Omega.{arith}
 use lib.ListN.{length, getD, take, drop}
-use lib.Seq.{slice, drop-nil}
+use lib.Seq.{slice, drop-nil, length-slice}
 use Rattle.words.specs.Words.{wordsOf, bytesOf, joined, Below}
-use Rattle.words.proofs.Lists.{all-getD}
+use Rattle.words.proofs.Lists.{all-getD, all-take, all-drop}
 
 pub length-wordsOf : (b : List ℕ) → length (wordsOf b) ≡ length b / 2
 unfolding wordsOf
@@ -83,6 +83,13 @@ words-take (suc n) (x ∷ y ∷ r) = let e : suc n * 2 ≡ suc (suc (n * 2)) = o
 
 pub words-slice : (f t : ℕ) (b : List ℕ) → wordsOf (slice (f * 2) (t * 2) b) ≡ slice f t (wordsOf b)
 words-slice f t b = words-drop f (take (t * 2) b) ∙ ap (drop f) (words-take t b)
+
+-- and the bytes of a part of the words are that part of the bytes
+pub bytes-slice : (f t : ℕ) (b : List ℕ) → t ≤ length (wordsOf b) → Below 256 b → slice (f * 2) (t * 2) b ≡ bytesOf (slice f t (wordsOf b))
+bytes-slice f t b h bytes =
+    let l = length-slice (f * 2) (t * 2) b (omega (arith, length-wordsOf b)) in
+    let below = all-drop (λ x. x < 256) (f * 2) (take (t * 2) b) (all-take (λ x. x < 256) (t * 2) b bytes) in
+    sym (bytes-words (slice (f * 2) (t * 2) b) (omega arith) below) ∙ ap bytesOf (words-slice f t b)
 
 -- what a slice's rule gives, an element at a time
 pub all-below : (n : ℕ) (l : List ℕ) → ((i : ℕ) → getD l i 0 < n) → Below n l

@@ -42,6 +42,13 @@ joined (r ∷ rs) = r ++ joined rs
 unfoldable pub framed : List ℕ → List ℕ
 framed ws = (length ws + 2) ∷ ws ++ (xorAll ((length ws + 2) ∷ ws) ∷ [])
 
+-- "A block has 18 to 8,000 words": the most of them, and the most that its records have beside the length word and the checksum
+abbrev pub mostWords : ℕ
+mostWords = 8000
+
+abbrev pub mostRecordWords : ℕ
+mostRecordWords = 7998
+
 -- each element is such a one
 abbrev pub All : {A : Type 0} → (A → Type 0) → List A → Type 0
 All P [] = Unit {0}

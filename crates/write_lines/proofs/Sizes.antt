@@ -3,11 +3,11 @@ use mathlib.Core.Path.{_≡_, refl, sym, ap, _∙_}
 use mathlib.Core.Bool.{true, false}
 use mathlib.Core.List.{List, [], _∷_, _++_, append-assoc}
 use Prim.Native.Nat.{ℕ, zero, suc, _+_, _-_, _*_, _/_, _%_, _≤_}
-use native.Mathlib.Nat.{suc-mul, mul-comm, mul-le-mul-right}
+use native.Mathlib.Nat.{mul-le-mul-right}
 use native.Mathlib.Omega.{arith}
 use borrow.Author.Tests.{ne-eqb}
 use lib.Dec.{eqb}
-use lib.ListN.{length, take, drop, replicate, length-append, length-replicate, length-drop}
+use lib.ListN.{length, take, drop, length-append, length-drop}
 use lib.Seq.{length-take-le}
 use Rattle.units.specs.Choice.{if_then_else_}
 use Rattle.units.specs.Units.{linesOfFields}
@@ -19,7 +19,7 @@ use Rattle.record.specs.Rules.{CardsOk, DataOk, KindOk, catalogue, header, data
 use Rattle.block.specs.Judging.{Accepted}
 use Rattle.block.specs.Records.{recordsOf}
 use Rattle.block.proofs.Exact.{only-good}
-use Rattle.line_plan.specs.Plan.{plan, dataPlan, kindShown, shownWords}
+use Rattle.line_plan.specs.Plan.{dataPlan, kindShown, shownWords}
 use Rattle.line_plan.proofs.Plans.{fieldsIn, length-plan, fieldsIn-plan}
 use Rattle.write_parts.specs.Laid.{fieldsOf, laid, cardLines, ended}
 use Rattle.write_parts.proofs.Turns.{length-fieldsOf}

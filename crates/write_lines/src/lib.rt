@@ -1,6 +1,5 @@
 // Block to lines: the standard lines of a block's records, written straight into the lent text.
 use block::Judged;
-use block::Place;
 use block::Refusal;
 use units::Answer;
 use units::Bytes;
@@ -111,14 +110,13 @@ fn text_size(block: &[u8]) -> Bytes
     let mut at = 1;
     let mut bytes = 0;
     loop {
-        match block::step(block, Words(at)) {
-            Place::NoMore => return Bytes(bytes),
-            Place::Record(place, size) => {
-                let next = at + size.0;
-                bytes += record_size(words::part(block, place, Words(next))).0;
-                at = next;
-            }
+        let whole = block::record_at(block, Words(at));
+        let n = words::count(whole).0;
+        if n == 0 {
+            return Bytes(bytes);
         }
+        bytes += record_size(whole).0;
+        at += n;
     }
 }
 
@@ -130,14 +128,13 @@ pub fn write_records(block: &[u8], out: &mut [u8]) -> Bytes
     let mut at = 1;
     let mut to = Bytes(0);
     loop {
-        match block::step(block, Words(at)) {
-            Place::NoMore => return to,
-            Place::Record(place, size) => {
-                let next = at + size.0;
-                to = write_record(words::part(block, place, Words(next)), out, to);
-                at = next;
-            }
+        let whole = block::record_at(block, Words(at));
+        let n = words::count(whole).0;
+        if n == 0 {
+            return to;
         }
+        to = write_record(whole, out, to);
+        at += n;
     }
 }
 

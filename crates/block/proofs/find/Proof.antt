@@ -1,68 +1,52 @@
-use Prim.Native.Nat.{_-_, _≤_}
-use Rattle.block.proofs.Steps.{Found, step-found, find-none, find-first, find-on}
-use Rattle.block.specs.Steps.{findOf, past}
-use Rattle.words.proofs.Laws.{length-wordsOf}
-use Rattle.words.specs.Words.{wordsOf}
-use denote.Ref.{now}
-use borrow.Author.Needs.{needs}
+use Prim.Native.Nat.{ℕ, _≤_}
+use mathlib.Core.Path.{_≡_, refl, sym, _∙_}
+use mathlib.Core.List.{List}
 use native.Mathlib.Omega.{arith}
-use mathlib.Core.Path.{_≡_, refl, sym, ap, _∙_}
+use borrow.Author.Needs.{needs}
+use denote.Ref.{now}
+use Rattle.words.specs.Words.{wordsOf}
+use Rattle.words.proofs.Laws.{length-wordsOf}
+use Rattle.block.specs.declared.Place.the-variants.{Record}
+use Rattle.block.specs.Steps.{stepOf, findOf}
+use Rattle.block.proofs.Steps.{step-found, find-none, find-first, find-on}
 use Rattle.block.proofs.find.Statement.{statement}
 use Rattle.block.proofs.find.Tie as tie
 
+-- what is found from here on is what is to be found
+record Finding (block : List ℕ) (number at i : ℕ) : Type 0 where
+  some : 1 ≤ i
+  same : findOf (wordsOf block) 1 number ≡ findOf (wordsOf block) at i
+
 abbrev Inv-loop : tie.InvT-loop
-Inv-loop block number at₀ i₀ at i = (1 ≤ i) × (findOf (wordsOf block) 1 number ≡ findOf (wordsOf block) at i)
+Inv-loop block number at₀ i₀ at i = Finding block number at i
 
 abbrev μ-loop : tie.MeasureT-loop
 μ-loop block number at₀ i₀ at i = i
 
--- back from one place to another
-abbrev start-before-place : tie.After-place Inv-loop μ-loop → tie.Start Inv-loop μ-loop
-start-before-place c = c .before .before .before .before .before .before .before
-
-abbrev loop-before-place : tie.After-place Inv-loop μ-loop → tie.At-loop Inv-loop μ-loop
-loop-before-place c = c .before .before .before .before
-
 -- the record that a turn passes over
-found : (c : tie.After-place Inv-loop μ-loop) → let p = c .place .given .0 in
-    Found (wordsOf (now (start-before-place c .args .block))) (loop-before-place c .loop .at) (p .0 .0) (p .1 .0 .0)
-found c = step-found _ _ _ _ (sym (c .before .before .step .ensures) ∙ c .place .given .1)
+stands : (c : tie.After-place Inv-loop μ-loop) → let l = c .before .before .before .before in let p = c .place .given .0 in
+    stepOf (wordsOf (now (l .before .before .before .args .block))) (l .loop .at) ≡ Record (p .0) (p .1 .0)
+stands c = sym (c .before .before .step .ensures) ∙ c .place .given .1
 
 returns : tie.Need-returns Inv-loop μ-loop
 returns c = find-none _ _ _ (c .if1 .taken)
 
 loop-holds : tie.Need-loop-holds Inv-loop μ-loop
-loop-holds c = (omega (arith, c .if1 .left), refl)
-
-step-requires : tie.Need-step-requires Inv-loop μ-loop
-step-requires c κs = tt
-
-enum-told : tie.Need-enum-told Inv-loop μ-loop
-enum-told c = search needs
+loop-holds c = record { some = omega (arith, c .if1 .left); same = refl }
 
 returns-2 : tie.Need-returns-2 Inv-loop μ-loop
-returns-2 c = sym (c .before .before .before .before .loop .inv .1 ∙ find-on (wordsOf (now (c .before .before .before .before .before .before .before .args .block))) (c .before .before .before .before .loop .at) (c .before .before .before .before .loop .i) (omega arith) ∙ ap (λ s. past s (λ next. findOf (wordsOf (now (c .before .before .before .before .before .before .before .args .block))) next (c .before .before .before .before .loop .i - 1))) (sym (c .before .before .step .ensures) ∙ c .enum-told .given .1))
-
-enum-known-place : tie.Need-enum-known-place Inv-loop μ-loop
-enum-known-place c = search needs
+returns-2 c = let l = c .before .before .before .before .loop in
+    sym (l .inv .same ∙ find-on _ _ (l .i) (omega arith) (sym (c .before .before .step .ensures) ∙ c .enum-told .given .1))
 
 add-at : tie.Need-add-at Inv-loop μ-loop
-add-at c = omega (arith, found (c .before), length-wordsOf (now (start-before-place (c .before) .args .block)))
-
-sub-i : tie.Need-sub-i Inv-loop μ-loop
-sub-i c = omega arith
-
-loop-less : tie.Need-loop-less Inv-loop μ-loop
-loop-less c = omega arith
+add-at c = omega (arith, step-found _ _ _ _ (stands (c .before)), length-wordsOf (now (c .before .before .before .before .before .before .before .before .args .block)))
 
 loop-again : tie.Need-loop-again Inv-loop μ-loop
-loop-again c = (omega arith, loop-before-place (c .before) .loop .inv .1 ∙ find-on (wordsOf (now (start-before-place (c .before) .args .block))) (loop-before-place (c .before) .loop .at) (loop-before-place (c .before) .loop .i) (omega arith) ∙ ap (λ s. past s (λ next. findOf (wordsOf (now (start-before-place (c .before) .args .block))) next (loop-before-place (c .before) .loop .i - 1))) (sym (c .before .before .before .step .ensures) ∙ c .before .place .given .1))
-
-step-requires-2 : tie.Need-step-requires-2 Inv-loop μ-loop
-step-requires-2 c κs = tt
+loop-again c = let l = c .before .before .before .before .before .loop in
+    record { some = omega arith; same = l .inv .same ∙ find-on _ _ (l .i) (omega arith) (stands (c .before)) }
 
 returns-3 : tie.Need-returns-3 Inv-loop μ-loop
-returns-3 c = c .step2 .ensures ∙ sym (c .before .before .loop .inv .1 ∙ find-first _ _ _ (omega arith))
+returns-3 c = c .step2 .ensures ∙ sym (c .before .before .loop .inv .same ∙ find-first _ _ _ (omega arith))
 
 pub find-spec : {M : Type 1} → statement M
 find-spec =
@@ -72,13 +56,13 @@ find-spec =
     μ-loop
     returns
     loop-holds
-    step-requires
-    enum-told
+    (λ c κs. tt)
+    (λ c. search needs)
     returns-2
-    enum-known-place
+    (λ c. search needs)
     add-at
-    sub-i
-    loop-less
+    (λ c. omega arith)
+    (λ c. omega arith)
     loop-again
-    step-requires-2
+    (λ c κs. tt)
     returns-3)

@@ -44,21 +44,12 @@ computed-is c =
 inner-is : (c : tie.After-part2) → wordsOf (now (c .part2 .result)) ≡ slice 1 (count-before-exclusive-or (c .before .before) .count .result .0 - 1) (wordsOf (now (start-before-exclusive-or (c .before .before) .args .block)))
 inner-is c = ap wordsOf (c .part2 .ensures) ∙ words-slice 1 (count-before-exclusive-or (c .before .before) .count .result .0 - 1) (now (start-before-exclusive-or (c .before .before) .args .block))
 
-wrong-size-requires : tie.Need-wrong-size-requires
-wrong-size-requires c κs = search needs
-
 returns : tie.Need-returns
 unfolding judged
 returns c = simp (sym (c .before .wrong-size .ensures) ∙ c .if1 .taken)
 
-count-requires : tie.Need-count-requires
-count-requires c κs = search needs
-
 word-at-requires : tie.Need-word-at-requires
 word-at-requires c κs = let s = sized c in omega arith
-
-words-said-requires : tie.Need-words-said-requires
-words-said-requires c κs = search needs
 
 returns-2 : tie.Need-returns-2
 unfolding judged
@@ -69,12 +60,6 @@ sub-end c = let s = sized (c .before .before .before) in omega arith
 
 word-at-requires-2 : tie.Need-word-at-requires-2
 word-at-requires-2 c κs = let s = sized (c .before .before .before) in omega arith
-
-part-requires : tie.Need-part-requires
-part-requires c κs = search needs
-
-exclusive-or-requires : tie.Need-exclusive-or-requires
-exclusive-or-requires c κs = search needs
 
 cast-bits : tie.Need-cast-bits
 cast-bits c = let x = c .before .before .before .word-at2 .result in let y = c .before .exclusive-or .result in
@@ -100,16 +85,16 @@ pub judge-spec : {M : Type 1} → statement M
 judge-spec =
     tie.close
     (tie.spec
-    wrong-size-requires
+    (λ c κs. search needs)
     returns
-    count-requires
+    (λ c κs. search needs)
     word-at-requires
-    words-said-requires
+    (λ c κs. search needs)
     returns-2
     sub-end
     word-at-requires-2
-    part-requires
-    exclusive-or-requires
+    (λ c κs. search needs)
+    (λ c κs. search needs)
     cast-bits
     returns-3
     part-requires-2

@@ -14,27 +14,12 @@ use Rattle.block.proofs.step.Tie as tie
 size-is : (c : tie.After-words-said) → getD (wordsOf (now (c .before .before .before .before .before .args .block))) (c .before .before .before .before .before .args .at .0) 0 ≡ c .words-said .result .0
 size-is c = sym (c .words-said .ensures .0 ∙ c .before .word-at .ensures)
 
-count-requires : tie.Need-count-requires
-count-requires c κs = search needs
-
 returns : tie.Need-returns
 returns c = sym (step-beyond (wordsOf (now (c .before .before .before .args .block))) (c .before .before .before .args .at .0) (omega arith))
-
-word-at-requires : tie.Need-word-at-requires
-word-at-requires c κs = search needs
-
-words-said-requires : tie.Need-words-said-requires
-words-said-requires c κs = search needs
 
 returns-2 : tie.Need-returns-2
 unfolding stepOf
 returns-2 c = simp (size-is (c .before), eq-eqb _ _ (c .if2 .taken))
-
-sub-if3 : tie.Need-sub-if3
-sub-if3 c = search needs
-
-sub-if3-2 : tie.Need-sub-if3-2
-sub-if3-2 c = search needs
 
 returns-3 : tie.Need-returns-3
 unfolding stepOf
@@ -48,12 +33,12 @@ pub step-spec : {M : Type 1} → statement M
 step-spec =
     tie.close
     (tie.spec
-    count-requires
+    (λ c κs. search needs)
     returns
-    word-at-requires
-    words-said-requires
+    (λ c κs. search needs)
+    (λ c κs. search needs)
     returns-2
-    sub-if3
-    sub-if3-2
+    (λ c. search needs)
+    (λ c. search needs)
     returns-3
     returns-4)

@@ -27,26 +27,14 @@ left-2 : (c : tie.After-write-signed) → let a = start-before-write-bytes (writ
     Going (now (a .out)) (a .at .0) (ending (a .w)) (c .write-signed .last .1 .0) (c .write-signed .result .0) (closing (write-bytes-before-write-signed c .before .before .before .prefix-of .result))
 left-2 c = on (left-1 (write-bytes-before-write-signed c)) _ _ refl (c .write-signed .ensures)
 
-prefix-of-requires : tie.Need-prefix-of-requires
-prefix-of-requires c κs = search needs
-
-slice-aggregate-write-bytes : tie.Need-slice-aggregate-write-bytes
-slice-aggregate-write-bytes c = search needs
-
 write-bytes-requires : tie.Need-write-bytes-requires
 write-bytes-requires c κs = fits {o = now (c .before .before .before .before .args .out)} start (32 ∷ []) _ (pieces (c .before .before)) (c .before .before .before .before .pre)
 
 write-signed-requires : tie.Need-write-signed-requires
 write-signed-requires c κs = fits (left-1 (c .before .before .before)) (signedOf (start-before-write-bytes (c .before .before .before) .args .w)) _ refl (start-before-write-bytes (c .before .before .before) .pre)
 
-slice-aggregate-write-bytes-2 : tie.Need-slice-aggregate-write-bytes-2
-slice-aggregate-write-bytes-2 c = search needs
-
 write-bytes-requires-2 : tie.Need-write-bytes-requires-2
 write-bytes-requires-2 c κs = fits (left-2 (c .before .before .before .before)) (closing (write-bytes-before-write-signed (c .before .before .before .before) .before .before .before .prefix-of .result)) [] refl (start-before-write-bytes (write-bytes-before-write-signed (c .before .before .before .before)) .pre)
-
-same-length : tie.Need-same-length
-same-length c = search needs
 
 returns : tie.Need-returns
 returns c = done (on (left-2 (c .before .before .before .before .before .before .before)) _ [] refl (c .before .before .write-bytes2 .ensures)) refl
@@ -55,11 +43,11 @@ pub write-instrument-spec : {M : Type 1} → statement M
 write-instrument-spec =
     tie.close
     (tie.spec
-    prefix-of-requires
-    slice-aggregate-write-bytes
+    (λ c κs. search needs)
+    (λ c. search needs)
     write-bytes-requires
     write-signed-requires
-    slice-aggregate-write-bytes-2
+    (λ c. search needs)
     write-bytes-requires-2
-    same-length
+    (λ c. search needs)
     returns)

@@ -7,9 +7,9 @@ use denote.Ref.{now}
 use Rattle.words.specs.Words.{wordsOf}
 use Rattle.words.proofs.Writing.{Going, start, fits, on, done}
 use Rattle.block.proofs.Exact.{ok-long}
+use Rattle.write_lines.proofs.Sizes.{sized}
 use Rattle.report.specs.Decimal.{decimalOf, spaced}
 use Rattle.printed.specs.Listing.{rowOf}
-use Rattle.printed.proofs.Sizes.{lines-most}
 use Rattle.printed.proofs.Rows.{ending, row-pieces}
 use borrow.Author.Needs.{needs}
 use Rattle.printed.proofs.write_row.Statement.{statement}
@@ -48,29 +48,14 @@ left-2 : (c : tie.After-write-spaced) → let w = write-number-before-write-spac
     Going (now (a .out)) (a .at .0) (rowOf (a .number) (a .before .0) (ws s)) (c .write-spaced .last .1 .0) (c .write-spaced .result .0) (ending (w .word-at2 .result))
 left-2 c = on (left-1 (write-number-before-write-spaced c)) _ _ refl (c .write-spaced .ensures)
 
-add-position : tie.Need-add-position
-add-position c = search needs
-
-cast-position : tie.Need-cast-position
-cast-position c = search needs
-
 word-at-requires : tie.Need-word-at-requires
 word-at-requires c κs = omega (arith, long (c .before .before .before))
-
-cast-kind : tie.Need-cast-kind
-cast-kind c = search needs
-
-count-requires : tie.Need-count-requires
-count-requires c κs = search needs
-
-cast-count : tie.Need-cast-count
-cast-count c = search needs
 
 line-count-requires : tie.Need-line-count-requires
 line-count-requires c κs = long (c .before .before .before .before .before .before)
 
 cast-lines : tie.Need-cast-lines
-cast-lines c = omega (arith, c .before .line-count .ensures, lines-most (ws (start-before-line-count (c .before))) (start-before-line-count (c .before) .pre .1))
+cast-lines c = omega (arith, c .before .line-count .ensures, sized (ws (start-before-line-count (c .before))) (start-before-line-count (c .before) .pre .1) .count-most)
 
 word-at-requires-2 : tie.Need-word-at-requires-2
 word-at-requires-2 c κs = omega (arith, long (start-before-line-count (c .before)))
@@ -78,17 +63,11 @@ word-at-requires-2 c κs = omega (arith, long (start-before-line-count (c .befor
 write-number-requires : tie.Need-write-number-requires
 write-number-requires c κs = fits {o = now (start-before-line-count (c .before .before .before) .args .out)} start (decimalOf (start-before-line-count (c .before .before .before) .args .number)) _ (pieces (c .before)) (start-before-line-count (c .before .before .before) .pre .3)
 
-slice-aggregate-write-spaced : tie.Need-slice-aggregate-write-spaced
-slice-aggregate-write-spaced c = search needs
-
 write-spaced-requires : tie.Need-write-spaced-requires
 write-spaced-requires c κs = fits (left-1 (c .before .before .before .before)) (spaced (four (c .before .before .before .before .before .before))) _ refl (start-before-line-count (line-count-before-write-number (c .before .before .before .before)) .pre .3)
 
 write-instrument-requires : tie.Need-write-instrument-requires
 write-instrument-requires c κs = omega (arith, left-2 (c .before .before .before) .total, left-2 (c .before .before .before) .kept, start-before-line-count (line-count-before-write-number (write-number-before-write-spaced (c .before .before .before))) .pre .3)
-
-same-length : tie.Need-same-length
-same-length c = search needs
 
 returns : tie.Need-returns
 returns c = done (on (left-2 (c .before .before .before .before .before .before)) _ [] (sym (append-nil _)) (c .before .before .write-instrument .ensures)) refl
@@ -97,18 +76,18 @@ pub write-row-spec : {M : Type 1} → statement M
 write-row-spec =
     tie.close
     (tie.spec
-    add-position
-    cast-position
+    (λ c. search needs)
+    (λ c. search needs)
     word-at-requires
-    cast-kind
-    count-requires
-    cast-count
+    (λ c. search needs)
+    (λ c κs. search needs)
+    (λ c. search needs)
     line-count-requires
     cast-lines
     word-at-requires-2
     write-number-requires
-    slice-aggregate-write-spaced
+    (λ c. search needs)
     write-spaced-requires
     write-instrument-requires
-    same-length
+    (λ c. search needs)
     returns)

@@ -24,26 +24,14 @@ left c = on start (45 ∷ []) _ (signed-below (start-before-write-bytes c .args 
 write-number-requires : tie.Need-write-number-requires
 write-number-requires c κs = omega (arith, c .before .before .before .pre, ap length (signed-plain (c .before .before .before .args .w) (omega arith)))
 
-same-length : tie.Need-same-length
-same-length c = search needs
-
 returns : tie.Need-returns
 returns c = rw (signed-plain (c .before .before .before .before .before .before .args .w) (omega arith)) (c .before .before .write-number .ensures)
-
-slice-aggregate-write-bytes : tie.Need-slice-aggregate-write-bytes
-slice-aggregate-write-bytes c = search needs
 
 write-bytes-requires : tie.Need-write-bytes-requires
 write-bytes-requires c κs = fits {o = now (c .before .before .before .before .args .out)} start (45 ∷ []) _ (signed-below (c .before .before .before .before .args .w) (omega arith)) (c .before .before .before .before .pre)
 
-sub-write-number : tie.Need-sub-write-number
-sub-write-number c = search needs
-
 write-number-requires-2 : tie.Need-write-number-requires-2
 write-number-requires-2 c κs = omega (arith, left (c .before .before .before) .total, left (c .before .before .before) .kept, start-before-write-bytes (c .before .before .before) .pre)
-
-same-length-2 : tie.Need-same-length-2
-same-length-2 c = search needs
 
 returns-2 : tie.Need-returns-2
 returns-2 c = done (on (left (c .before .before .before .before .before .before)) _ [] (sym (append-nil _)) (c .before .before .write-number2 .ensures)) refl
@@ -53,11 +41,11 @@ write-signed-spec =
     tie.close
     (tie.spec
     write-number-requires
-    same-length
+    (λ c. search needs)
     returns
-    slice-aggregate-write-bytes
+    (λ c. search needs)
     write-bytes-requires
-    sub-write-number
+    (λ c. search needs)
     write-number-requires-2
-    same-length-2
+    (λ c. search needs)
     returns-2)

@@ -44,9 +44,6 @@ write-digit-requires : (t : ℕ) → needs-of.Need-write-digit-requires (claims 
 write-digit-requires t c κs = let a = c .before .before .before .args in
     (omega arith, omega (arith, c .before .before .before .pre .1, ap length (one-digit (a .n) (omega arith))))
 
-same-length : (t : ℕ) → needs-of.Need-same-length (claims t) (asked t) number.Post
-same-length t c = search needs
-
 returns : (t : ℕ) → needs-of.Need-returns (claims t) (asked t) number.Post
 returns t c = rw (one-digit (c .before .before .before .before .before .before .args .n) (omega arith)) (c .before .before .write-digit .ensures)
 
@@ -58,9 +55,6 @@ write-digit-requires-2 : (t : ℕ) → needs-of.Need-write-digit-requires-2 (cla
 write-digit-requires-2 t c κs = let a = c .before .before .before .before .before .before .before .args in
     (omega arith, fits (going t (c .before .before .before)) ((48 + a .n % 10) ∷ []) [] refl (c .before .before .before .before .before .before .before .pre .1))
 
-same-length-2 : (t : ℕ) → needs-of.Need-same-length-2 (claims t) (asked t) number.Post
-same-length-2 t c = search needs
-
 returns-2 : (t : ℕ) → needs-of.Need-returns-2 (claims t) (asked t) number.Post
 returns-2 t c = done (on (going t (c .before .before .before .before .before .before)) _ [] refl (c .before .before .write-digit2 .ensures)) refl
 
@@ -69,9 +63,9 @@ pub +write-number-spec : {M : Type 1} → statement M
     (asked t)
     number.Post
     (write-digit-requires t)
-    (same-length t)
+    (λ c. search needs)
     (returns t)
     (write-number-requires t)
     (write-digit-requires-2 t)
-    (same-length-2 t)
+    (λ c. search needs)
     (returns-2 t)

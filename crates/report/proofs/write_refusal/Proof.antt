@@ -27,36 +27,15 @@ left-2 : (c : tie.After-write-spaced) → let a = start-before-write-bytes (writ
     Going (now (a .out)) (a .at .0) (refusalLine (a .r)) (c .write-spaced .last .1 .0) (c .write-spaced .result .0) (10 ∷ [])
 left-2 c = on (left-1 (write-bytes-before-write-spaced c)) _ _ refl (c .write-spaced .ensures)
 
-cast-n : tie.Need-cast-n
-cast-n c = search needs
-
-cast-b : tie.Need-cast-b
-cast-b c = search needs
-
-cast-c : tie.Need-cast-c
-cast-c c = search needs
-
-slice-aggregate-write-bytes : tie.Need-slice-aggregate-write-bytes
-slice-aggregate-write-bytes c = search needs
-
 write-bytes-requires : tie.Need-write-bytes-requires
 unfolding bytesFrom
 write-bytes-requires c κs = fits {o = now (c .before .before .before .before .before .before .args .out)} start (text "refused") _ (refusal-pieces (c .before .before .before .before .before .before .args .r)) (c .before .before .before .before .before .before .pre)
 
-slice-aggregate-write-spaced : tie.Need-slice-aggregate-write-spaced
-slice-aggregate-write-spaced c = search needs
-
 write-spaced-requires : tie.Need-write-spaced-requires
 write-spaced-requires c κs = fits (left-1 (c .before .before .before .before)) (spaced (fourOf (start-before-write-bytes (c .before .before .before .before) .args .r))) (10 ∷ []) refl (start-before-write-bytes (c .before .before .before .before) .pre)
 
-slice-aggregate-write-bytes-2 : tie.Need-slice-aggregate-write-bytes-2
-slice-aggregate-write-bytes-2 c = search needs
-
 write-bytes-requires-2 : tie.Need-write-bytes-requires-2
 write-bytes-requires-2 c κs = fits (left-2 (c .before .before .before .before)) (10 ∷ []) [] refl (start-before-write-bytes (write-bytes-before-write-spaced (c .before .before .before .before)) .pre)
-
-same-length : tie.Need-same-length
-same-length c = search needs
 
 returns : tie.Need-returns
 returns c = done (on (left-2 (c .before .before .before .before .before .before .before)) (10 ∷ []) [] refl (c .before .before .write-bytes2 .ensures)) refl
@@ -65,14 +44,14 @@ pub write-refusal-spec : {M : Type 1} → statement M
 write-refusal-spec =
     tie.close
     (tie.spec
-    cast-n
-    cast-b
-    cast-c
-    slice-aggregate-write-bytes
+    (λ c. search needs)
+    (λ c. search needs)
+    (λ c. search needs)
+    (λ c. search needs)
     write-bytes-requires
-    slice-aggregate-write-spaced
+    (λ c. search needs)
     write-spaced-requires
-    slice-aggregate-write-bytes-2
+    (λ c. search needs)
     write-bytes-requires-2
-    same-length
+    (λ c. search needs)
     returns)

@@ -42,21 +42,9 @@ slice-write-out c = omega (arith, room c)
 add-next : tie.Need-add-next Inv-loop μ-loop
 add-next c = omega (arith, room c, c .before .loop .inv .1 .kept)
 
-mul-write-number : tie.Need-mul-write-number Inv-loop μ-loop
-mul-write-number c = omega arith
-
-shared-slice-read-write-number : tie.Need-shared-slice-read-write-number Inv-loop μ-loop
-shared-slice-read-write-number c = omega arith
-
 write-number-requires : tie.Need-write-number-requires Inv-loop μ-loop
 write-number-requires c κs = let ns = now (start-before-turn (c .before .before) .args .numbers) in
     fits (going (c .before .before)) (decimalOf (getD ns (c .before .before .before .loop .i) 0)) (spaced (drop (c .before .before .before .loop .i + 1) ns)) refl (start-before-turn (c .before .before) .pre)
-
-add-i : tie.Need-add-i Inv-loop μ-loop
-add-i c = omega arith
-
-loop-less : tie.Need-loop-less Inv-loop μ-loop
-loop-less c = omega arith
 
 loop-again : tie.Need-loop-again Inv-loop μ-loop
 loop-again c = (omega arith, on (going (c .before .before .before .before .before)) _ _ refl (c .before .before .write-number .ensures))
@@ -77,11 +65,11 @@ write-spaced-spec =
     loop-holds
     slice-write-out
     add-next
-    mul-write-number
-    shared-slice-read-write-number
+    (λ c. omega arith)
+    (λ c. omega arith)
     write-number-requires
-    add-i
-    loop-less
+    (λ c. omega arith)
+    (λ c. omega arith)
     loop-again
     same-length
     returns)

@@ -6,23 +6,11 @@ use borrow.Author.Needs.{needs}
 use Rattle.write_lines.proofs.to_lines.Statement.{statement}
 use Rattle.write_lines.proofs.to_lines.Tie as tie
 
-judge-requires : tie.Need-judge-requires
-judge-requires c κs = search needs
-
-enum-known-r : tie.Need-enum-known-r
-enum-known-r c = search needs
-
-enum-told : tie.Need-enum-told
-enum-told c = search needs
-
 write-text-requires : tie.Need-write-text-requires
 write-text-requires c κs = record { count = _; is = sym (c .before .before .before .judge .ensures) ∙ ap judgedOf (c .before .enum-told .given .1) }
 
 returns : tie.Need-returns
 returns c = sym (when-refused (now (c .before .before .before .before .before .before .args .block)) (now (c .before .before .before .before .before .before .args .text)) _ (sym (c .before .before .before .judge .ensures) ∙ ap judgedOf (c .before .r .given .1)))
-
-same-length : tie.Need-same-length
-same-length c = search needs
 
 returns-2 : tie.Need-returns-2
 returns-2 c = c .before .before .write-text .ensures ∙ sym (when-accepted (now (c .before .before .before .before .before .before .before .before .before .args .block)) (now (c .before .before .before .before .before .before .before .before .before .args .text)) _ (sym (c .before .before .before .before .before .before .judge .ensures) ∙ ap judgedOf (c .before .before .before .before .enum-told .given .1)))
@@ -31,10 +19,10 @@ pub to-lines-spec : {M : Type 1} → statement M
 to-lines-spec =
     tie.close
     (tie.spec
-    judge-requires
-    enum-known-r
-    enum-told
+    (λ c κs. search needs)
+    (λ c. search needs)
+    (λ c. search needs)
     write-text-requires
     returns
-    same-length
+    (λ c. search needs)
     returns-2)
