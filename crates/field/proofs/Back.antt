@@ -14,12 +14,12 @@ use Rattle.field.specs.declared.Scan.{Scan}
 use Rattle.field.specs.declared.Scan.the-variants.{Blank, Sign, Digits}
 use Rattle.field.specs.Writing.{magnitudeOf, signOf, blanks, fieldOf}
 use Rattle.units.specs.Decimal.{digit, decimal}
-use Rattle.field.specs.Reading.{digitOf, stepOf, finishOf, scanOf, readField}
+use Rattle.field.specs.Reading.{digitOf, afterColumn, finishOf, scanOf, readField}
 use Rattle.units.proofs.Digits.{last-one, last-more}
 
 scan-append : (xs ys : List ℕ) (s : Scan) → scanOf s (xs ++ ys) ≡ scanOf (scanOf s xs) ys
 scan-append [] ys s = refl
-scan-append (x ∷ xs) ys s = scan-append xs ys (stepOf s x)
+scan-append (x ∷ xs) ys s = scan-append xs ys (afterColumn s x)
 
 scan-blanks : (n : ℕ) (l : List ℕ) → scanOf Blank (blanks n ++ l) ≡ scanOf Blank l
 scan-blanks zero l = refl
@@ -32,7 +32,7 @@ read-digit minus n =
     simp (le-leb 48 (48 + n % 10) (omega arith), le-leb (48 + n % 10) 57 (omega arith), e)
 
 -- where a first digit may stand, the digits of a number are read as that number
-module _ (minus : Bool) (from : Scan) (first : (n : ℕ) → stepOf from (digit n) ≡ digitOf minus 0 (digit n)) where
+module _ (minus : Bool) (from : Scan) (first : (n : ℕ) → afterColumn from (digit n) ≡ digitOf minus 0 (digit n)) where
   scan-one : (most n : ℕ) → n < 10 → scanOf from (decimal (suc most) n) ≡ Digits minus n
   scan-one most n h =
       let e : 0 ≡ n / 10 = omega arith in
@@ -49,7 +49,7 @@ module _ (minus : Bool) (from : Scan) (first : (n : ℕ) → stepOf from (digit 
       go true t e = scan-one (suc most) n (ltb-true n 10 t)
       go false t e = scan-more (suc most) n (ltb-false n 10 t) e
 
-first-digit : (n : ℕ) → stepOf Blank (digit n) ≡ digitOf false 0 (digit n)
+first-digit : (n : ℕ) → afterColumn Blank (digit n) ≡ digitOf false 0 (digit n)
 first-digit n = simp (ne-eqb (48 + n % 10) 32 (λ e. omega arith), ne-eqb (48 + n % 10) 45 (λ e. omega arith), ne-eqb (48 + n % 10) 43 (λ e. omega arith))
 
 pub read-written : (w : ℕ) → w < 65536 → readField (fieldOf w) ≡ Word w

@@ -13,7 +13,7 @@ use Rattle.units.proofs.Verdicts.{and-on}
 use Rattle.field.specs.declared.Number.the-variants.{Bad}
 use Rattle.field.specs.declared.Scan.{Scan}
 use Rattle.field.specs.declared.Scan.the-variants.{Blank, Sign, Digits, Spoiled}
-use Rattle.field.specs.Reading.{digitOf, stepOf, finishOf, scanOf, readField, columns, Short}
+use Rattle.field.specs.Reading.{digitOf, afterColumn, finishOf, scanOf, readField, columns, Short}
 use Rattle.units.proofs.Choosing.{both-ways}
 
 -- ---- a digit, by the number that it is above 48, wrapped
@@ -43,7 +43,7 @@ short-digit n minus m b h = go (leb 48 b && leb b 57) refl
 ten-pow : (n : ℕ) → 0 < 10 ^ n
 ten-pow n = pow-le-pow-right {n = 10} (omega arith) {i = 0} {j = n} (omega arith)
 
-pub short-step : (n : ℕ) (s : Scan) (b : ℕ) → Short n s → Short (suc n) (stepOf s b)
+pub short-step : (n : ℕ) (s : Scan) (b : ℕ) → Short n s → Short (suc n) (afterColumn s b)
 short-step n Blank b h =
     both-ways (Short (suc n)) (eqb b 32) Blank _ tt
     (both-ways (Short (suc n)) (eqb b 45) (Sign true) _ tt
@@ -67,17 +67,17 @@ getD-within (x ∷ xs) zero d e h = refl
 getD-within (x ∷ xs) (suc i) d e h = getD-within xs i d e (omega arith)
 
 -- a turn of the loop: the next column is taken, and those after it are left
-pub scan-on : (line : List ℕ) (at i : ℕ) (s : Scan) → i < 6 → at + 6 ≤ length line
-    → scanOf (stepOf s (getD line (at + i) 0)) (columns (6 - (i + 1)) line (at + (i + 1))) ≡ scanOf s (columns (6 - i) line (at + i))
+pub column-on : (line : List ℕ) (at i : ℕ) (s : Scan) → i < 6 → at + 6 ≤ length line
+    → scanOf (afterColumn s (getD line (at + i) 0)) (columns (6 - (i + 1)) line (at + (i + 1))) ≡ scanOf s (columns (6 - i) line (at + i))
 unfolding columns
-scan-on line at i s h k =
+column-on line at i s h k =
     let e : 6 - i ≡ suc (6 - (i + 1)) = omega arith in
     let f : at + (i + 1) ≡ suc (at + i) = omega arith in
     let g : getD line (at + i) 0 ≡ getD line (at + i) 32 = getD-within line (at + i) 0 32 (omega arith) in
     rw (e, f, g)
 
 -- a field whose last column is blank is bad
-blank-last : (s : Scan) → finishOf (stepOf s 32) ≡ Bad
+blank-last : (s : Scan) → finishOf (afterColumn s 32) ≡ Bad
 blank-last Blank = refl
 blank-last (Sign minus) = refl
 blank-last (Digits minus m) = refl
@@ -87,4 +87,4 @@ pub cut-short : (line : List ℕ) (at : ℕ) → length line < at + 6 → readFi
 unfolding readField columns
 cut-short line at h =
     let e : getD line (suc (suc (suc (suc (suc at))))) 32 ≡ 32 = List·getD-eq-default line 32 (omega arith) in
-    ap (λ b. finishOf (stepOf (scanOf Blank (columns 5 line at)) b)) e ∙ blank-last (scanOf Blank (columns 5 line at))
+    ap (λ b. finishOf (afterColumn (scanOf Blank (columns 5 line at)) b)) e ∙ blank-last (scanOf Blank (columns 5 line at))

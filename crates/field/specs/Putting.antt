@@ -19,6 +19,6 @@ unfoldable pub fourBytes : ℕ → List ℕ
 fourBytes x = x % 256 ∷ x / 256 % 256 ∷ x / 65536 % 256 ∷ x / 16777216 ∷ []
 
 -- a text was put before the column `end`, from the column `first` on; all other bytes stay
-pub record Put (before after text : List ℕ) (end first : ℕ) : Type 0 where
+pub record PutBefore (before after text : List ℕ) (end first : ℕ) : Type 0 where
   pub ends : first + length text ≡ end
   pub bytes : after ≡ sets before first text

@@ -15,16 +15,16 @@ abbrev pub digitOf : Bool → ℕ → ℕ → Scan
 digitOf minus m b = if leb 48 b && leb b 57 then Digits minus (m * 10 + (b - 48)) else Spoiled
 
 -- "blanks, then at most one sign, then digits"
-abbrev pub stepOf : Scan → ℕ → Scan
-stepOf Blank b = if eqb b 32 then Blank else if eqb b 45 then Sign true else if eqb b 43 then Sign false else digitOf false 0 b
-stepOf (Sign minus) b = digitOf minus 0 b
-stepOf (Digits minus m) b = digitOf minus m b
-stepOf Spoiled b = Spoiled
+abbrev pub afterColumn : Scan → ℕ → Scan
+afterColumn Blank b = if eqb b 32 then Blank else if eqb b 45 then Sign true else if eqb b 43 then Sign false else digitOf false 0 b
+afterColumn (Sign minus) b = digitOf minus 0 b
+afterColumn (Digits minus m) b = digitOf minus m b
+afterColumn Spoiled b = Spoiled
 
 -- one column after the other
 abbrev pub scanOf : Scan → List ℕ → Scan
 scanOf s [] = s
-scanOf s (b ∷ bs) = scanOf (stepOf s b) bs
+scanOf s (b ∷ bs) = scanOf (afterColumn s b) bs
 
 -- "its value lies in -32768 to 32767", and "    -0" is 0
 abbrev pub valueOf : Bool → ℕ → Number

@@ -6,8 +6,8 @@ ghost use lib.ListN.{length};
 ghost use lib.Seq.{sets};
 ghost use Rattle.field.specs.Writing.{magnitudeOf, blanks, fieldOf};
 ghost use Rattle.units.specs.Decimal.{decimal};
-ghost use Rattle.field.specs.Putting.{lastTwo, lastFour, fourBytes, Put};
-ghost use Rattle.field.specs.Reading.{digitOf, stepOf, valueOf, finishOf, readField, columns, Short};
+ghost use Rattle.field.specs.Putting.{lastTwo, lastFour, fourBytes, PutBefore};
+ghost use Rattle.field.specs.Reading.{digitOf, afterColumn, valueOf, finishOf, readField, columns, Short};
 
 // What a field holds.
 pub enum Number {
@@ -83,7 +83,7 @@ fn put_four(out: &mut [u8], at: usize, n: u16)
 // The digits of a number below 1000, to the last of six columns; gives the first one's column.
 fn put_few(out: &mut [u8], at: usize, n: u16) -> usize
     requires { ⌜ (at + 6 ≤ length (now out)) × (n < 1000) ⌝ }
-    ensures { λ r. ⌜ Put (now (out .entry)) (now (out .exit)) (decimal 5 n) (at + 6) r ⌝ }
+    ensures { λ r. ⌜ PutBefore (now (out .entry)) (now (out .exit)) (decimal 5 n) (at + 6) r ⌝ }
 {
     if n < 10 {
         out[at + 5] = 48 + n as u8;
@@ -102,7 +102,7 @@ fn put_few(out: &mut [u8], at: usize, n: u16) -> usize
 // The digits of any number, in the same way.
 fn put_digits(out: &mut [u8], at: usize, n: u16) -> usize
     requires { ⌜ at + 6 ≤ length (now out) ⌝ }
-    ensures { λ r. ⌜ Put (now (out .entry)) (now (out .exit)) (decimal 5 n) (at + 6) r ⌝ }
+    ensures { λ r. ⌜ PutBefore (now (out .entry)) (now (out .exit)) (decimal 5 n) (at + 6) r ⌝ }
 {
     if n < 1000 {
         return put_few(out, at, n);
@@ -150,7 +150,7 @@ fn with_digit(minus: bool, m: u32, b: u8) -> Scan
 // One column more.
 fn step(s: Scan, b: u8) -> Scan
     requires { ⌜ Short 5 s ⌝ }
-    ensures { λ r. ⌜ r ≡ stepOf s b ⌝ }
+    ensures { λ r. ⌜ r ≡ afterColumn s b ⌝ }
 {
     match s {
         Scan::Blank => {

@@ -6,7 +6,7 @@ use native.Mathlib.Nat.{add-zero}
 use denote.Ref.{now}
 use Rattle.field.specs.Reading.{finishOf, scanOf, readField, columns, Short}
 use Rattle.field.specs.declared.Scan.the-variants.{Blank}
-use Rattle.field.proofs.Columns.{short-step, short-up, scan-on, cut-short}
+use Rattle.field.proofs.Columns.{short-step, short-up, column-on, cut-short}
 use Rattle.field.proofs.scan_field.Statement.{statement}
 use Rattle.field.proofs.scan_field.Tie as tie
 
@@ -52,7 +52,7 @@ loop-again : tie.Need-loop-again Inv-loop μ-loop
 loop-again c = let l = c .before .before .before .loop in
     let line = now (start-before-loop (c .before .before .before) .args .line) in
     let at = start-before-loop (c .before .before .before) .args .at in
-    let read = scan-on line at (l .i) (l .s) (omega arith) (omega arith) in
+    let read = column-on line at (l .i) (l .s) (omega arith) (omega arith) in
     (omega arith, rw (add-one, c .step .ensures) (short-step (l .i) (l .s) _ (l .inv .1)), cc (l .inv .2, read, c .step .ensures))
 
 finish-requires : tie.Need-finish-requires Inv-loop μ-loop
