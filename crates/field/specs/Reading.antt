@@ -1,7 +1,7 @@
 -- Document 01, "The lines": a number field as it is read, column by column.
 use mathlib.Core.Bool.{Bool, true, false, _&&_}
 use mathlib.Core.List.{List, [], _∷_}
-use Prim.Native.Nat.{ℕ, zero, suc, _+_, _-_, _*_, _%_, _^_, _<_}
+use Prim.Native.Nat.{ℕ, zero, suc, _+_, _-_, _*_, _%_}
 use lib.Dec.{leb, eqb}
 use lib.ListN.{getD}
 use Rattle.units.specs.Choice.{if_then_else_}
@@ -47,9 +47,9 @@ unfoldable pub columns : ℕ → List ℕ → ℕ → List ℕ
 columns zero line at = []
 columns (suc n) line at = getD line at 32 ∷ columns n line (suc at)
 
--- at most n digits were read
-abbrev pub Short : ℕ → Scan → Type 0
-Short n Blank = Unit {0}
-Short n (Sign minus) = Unit {0}
-Short n (Digits minus m) = m < 10 ^ n
-Short n Spoiled = Unit {0}
+-- the value of the digits so far
+abbrev pub soFar : Scan → ℕ
+soFar Blank = 0
+soFar (Sign minus) = 0
+soFar (Digits minus m) = m
+soFar Spoiled = 0
