@@ -1,6 +1,6 @@
 -- The digits of a number, by how many there are, and the digits of remainders.
 use mathlib.Core.Path.{_≡_, ap, _∙_}
-use mathlib.Core.List.{[], _∷_, _++_}
+use mathlib.Core.List.{[], _∷_}
 use Prim.Native.Nat.{ℕ, suc, _+_, _-_, _*_, _/_, _%_, _≤_, _<_}
 use native.Mathlib.Nat.{add-mul-mod-self-right, mod-eq-of-lt}
 use native.Mathlib.Omega.{arith}

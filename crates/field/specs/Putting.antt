@@ -13,7 +13,7 @@ packed a b c d = a + b * 256 + c * 65536 + d * 16777216
 abbrev pub fourOf : ℕ → ℕ
 fourOf n = packed (digit (n / 1000)) (digit (n / 100)) (digit (n / 10)) (digit n)
 
--- the bytes of a number below 2 ^ 32
+-- the bytes of a number below 2 ^ 32, the lowest first
 abbrev pub fourBytes : ℕ → List ℕ
 fourBytes x = x % 256 ∷ x / 256 % 256 ∷ x / 65536 % 256 ∷ x / 16777216 ∷ []
 
