@@ -1,77 +1,85 @@
--- Digits put by the code, for each way that it goes, and what becomes of six blanks under them.
-use mathlib.Core.Path.{_≡_, refl, sym, ap, _∙_}
+-- The six columns of a field, by how many digits there are.
+use mathlib.Core.Path.{_≡_, refl, ap, _∙_}
 use mathlib.Core.List.{List, [], _∷_, _++_}
-use Prim.Native.Nat.{ℕ, _+_, _-_, _/_, _≤_, _<_}
+use Prim.Native.Nat.{ℕ, zero, suc, _+_, _-_, _*_, _/_, _%_, _^_, _≤_, _<_}
 use native.Mathlib.Omega.{arith}
 use borrow.Author.Tests.{le-ltb, lt-ltb}
-use lib.ListN.{length, set, length-replicate, replicate-append-replicate}
+use lib.ListN.{length}
 use lib.Seq.{sets}
-use Rattle.field.specs.Writing.{magnitudeOf, signOf, blanks, rightmost, fieldOf}
 use Rattle.units.specs.Decimal.{digit, decimal}
-use Rattle.field.specs.Putting.{lastTwo, lastFour, Put}
-use Rattle.field.proofs.Stores.{set-before, sets-over}
 use Rattle.units.proofs.Digits.{length-decimal, last-one}
-use Rattle.field.proofs.Digits.{last-two, more-two, last-four, last-five}
+use Rattle.field.specs.Writing.{blanks, fieldOf}
+use Rattle.field.specs.Putting.{packed, fourBytes, fourOf, sixOf}
+use Rattle.field.proofs.Digits.{two-digits, three-digits, four-digits, five-digits}
 
--- one digit before those that were put
-put-before : {before after text : List ℕ} {end : ℕ} (next first b : ℕ) → next ≡ first + 1 → Put before after text end next → Put before (set after first b) (b ∷ text) end first
-put-before {before} {after} {text} next first b e p =
-    record { ends = omega (arith, p .ends); bytes = ap (λ m. set m first b) (p .bytes) ∙ set-before text before next first b e }
+-- ---- a word's sign
 
-module _ (out : List ℕ) (at n : ℕ) where
-  pub put-one : n < 10 → Put out (set out (at + 5) (48 + n)) (decimal 5 n) (at + 6) (at + 5)
-  put-one h =
-      let d : digit n ≡ 48 + n = omega arith in
-      rw (last-one 4 n h, d) (record { ends = omega arith; bytes = refl })
+-- a blank behind the others is one more before them
+blank-more : (k : ℕ) (l : List ℕ) → blanks k ++ (32 ∷ l) ≡ blanks (suc k) ++ l
+blank-more zero l = refl
+blank-more (suc k) l = ap (λ r. 32 ∷ r) (blank-more k l)
 
-  module _ (after : List ℕ) (e : after ≡ sets out (at + 4) (lastTwo n)) where
-    pub put-two : 10 ≤ n → n < 100 → Put out after (decimal 5 n) (at + 6) (at + 4)
-    put-two h k = rw (last-two 3 n h k) (record { ends = omega arith; bytes = e })
+pub plain : {w : ℕ} → w < 32768 → sixOf 32 w ≡ fieldOf w
+unfolding sixOf fieldOf
+plain {w} h =
+    let e : 6 - length (decimal 5 w) ≡ suc (5 - length (decimal 5 w)) = omega (arith, length-decimal 5 w) in
+    simp (lt-ltb w 32768 h) (rw (e, blank-more))
 
-    pub put-three : 100 ≤ n → n < 1000 → Put out (set after (at + 3) (48 + n / 100)) (decimal 5 n) (at + 6) (at + 3)
-    put-three h k =
-        let d : digit (n / 100) ≡ 48 + n / 100 = omega arith in
-        rw (more-two 3 n h, last-one 2 (n / 100) (omega arith), d)
-        (put-before (at + 4) (at + 3) (48 + n / 100) (omega arith) (record { ends = omega arith; bytes = e }))
+pub with-minus : {w : ℕ} → w < 2 ^ 16 → 32768 ≤ w → sixOf 45 (65535 - w + 1) ≡ fieldOf w
+unfolding sixOf fieldOf
+with-minus {w} fits h =
+    let e : 65536 - w ≡ 65535 - w + 1 = omega arith in
+    let f : 5 - length (decimal 5 (65535 - w + 1)) ≡ 6 - suc (length (decimal 5 (65535 - w + 1))) = omega arith in
+    simp (le-ltb w 32768 h) (rw (e, f))
 
-  module _ (after : List ℕ) (e : after ≡ sets out (at + 2) (lastFour n)) where
-    pub put-four : 1000 ≤ n → n < 10000 → Put out after (decimal 5 n) (at + 6) (at + 2)
-    put-four h k = rw (last-four n h k) (record { ends = omega arith; bytes = e })
+-- ---- a number's bytes
 
-    pub put-five : 10000 ≤ n → n < 100000 → Put out (set after (at + 1) (48 + n / 10000)) (decimal 5 n) (at + 6) (at + 1)
-    put-five h k =
-        let d : digit (n / 10000) ≡ 48 + n / 10000 = omega arith in
-        rw (last-five n h k, d)
-        (put-before (at + 2) (at + 1) (48 + n / 10000) (omega arith) (record { ends = omega arith; bytes = e }))
+module _ (a b c d : ℕ) (ha : a < 256) (hb : b < 256) (hc : c < 256) where
+  four-bytes : fourBytes (packed a b c d) ≡ a ∷ b ∷ c ∷ d ∷ []
+  four-bytes =
+      let x : ℕ = packed a b c d in
+      let e : x % 256 ≡ a = omega arith in
+      let f : x / 256 ≡ b + (c + d * 256) * 256 = omega arith in
+      let g : x / 65536 ≡ c + d * 256 = omega arith in
+      let h : x / 16777216 ≡ d = omega arith in
+      let i : (b + (c + d * 256) * 256) % 256 ≡ b = omega arith in
+      let j : (c + d * 256) % 256 ≡ c = omega arith in
+      rw (e, f, g, h, i, j)
 
-module _ (out before : List ℕ) (at : ℕ) (b : before ≡ sets out at (blanks 6)) where
-  -- a text that was put over the last ones of six blanks
-  over-blanks : (after text : List ℕ) (first : ℕ) → length text ≤ 6 → Put before after text (at + 6) first → after ≡ sets out at (rightmost text)
-  over-blanks after text first h p =
-      let n : ℕ = 6 - length text in
-      let s : n + length text ≡ 6 = omega arith in
-      let a : blanks 6 ≡ blanks n ++ blanks (length text) = sym (replicate-append-replicate n (length text) 32 ∙ ap blanks s) in
-      let f : first ≡ at + length (blanks n) = rw length-replicate (omega (arith, p .ends)) in
-      p .bytes
-      ∙ ap (λ l. sets l first text) b
-      ∙ sets-over (blanks n) (blanks (length text)) text (blanks 6) out at first a f (length-replicate (length text) 32)
+-- ---- the columns that the code puts
 
-  module _ (w first : ℕ) (after : List ℕ) (p : Put before after (decimal 5 (magnitudeOf w)) (at + 6) first) where
-    abbrev digits : List ℕ
-    digits = decimal 5 (magnitudeOf w)
+module _ (lead n : ℕ) where
+  pub two : lead < 256 → 10 ≤ n → n < 100 → 32 ∷ 32 ∷ fourBytes (0x3030_0020 + lead * 256 + (n / 10 + n % 10 * 256) * 65536) ≡ sixOf lead n
+  unfolding sixOf
+  two b h k =
+      let e : 0x3030_0020 + lead * 256 + (n / 10 + n % 10 * 256) * 65536 ≡ packed 32 lead (digit (n / 10)) (digit n) = omega arith in
+      rw (e, four-bytes 32 lead (digit (n / 10)) (digit n) (omega arith) b (omega arith), two-digits 3 n h k)
 
-    few : length digits ≤ 5
-    few = length-decimal 5 (magnitudeOf w)
+  pub three : (x : ℕ) → lead < 256 → 100 ≤ n → n < 1000 → x ≡ fourOf n → 32 ∷ 32 ∷ fourBytes (x - 48 + lead) ≡ sixOf lead n
+  unfolding sixOf
+  three x b h k e =
+      let f : x - 48 + lead ≡ packed lead (digit (n / 100)) (digit (n / 10)) (digit n) = omega arith in
+      rw (f, four-bytes lead (digit (n / 100)) (digit (n / 10)) (digit n) b (omega arith) (omega arith), three-digits 2 n h k)
 
-    pub plain : w < 32768 → after ≡ sets out at (fieldOf w)
-    unfolding fieldOf
-    plain h =
-        let s : [] ≡ signOf w = simp (lt-ltb w 32768 h) in
-        over-blanks after digits first (omega (arith, few)) p ∙ ap (λ t. sets out at (rightmost (t ++ digits))) s
+  module _ (out after : List ℕ) (at : ℕ) where
+    pub one : (d : ℕ) → n < 10 → d ≡ digit n → after ≡ sets out at (32 ∷ 32 ∷ 32 ∷ 32 ∷ lead ∷ d ∷ []) → after ≡ sets out at (sixOf lead n)
+    unfolding sixOf
+    one d h e p = rw (last-one 4 n h, ← e) p
 
-    pub with-minus : 32768 ≤ w → set after (first - 1) 45 ≡ sets out at (fieldOf w)
-    unfolding fieldOf
-    with-minus h =
-        let s : 45 ∷ [] ≡ signOf w = simp (le-ltb w 32768 h) in
-        let q : Put before (set after (first - 1) 45) (45 ∷ digits) (at + 6) (first - 1) = put-before first (first - 1) 45 (omega (arith, few, p .ends)) p in
-        over-blanks (set after (first - 1) 45) (45 ∷ digits) (first - 1) (omega (arith, few)) q ∙ ap (λ t. sets out at (rightmost (t ++ digits))) s
+    pub few : (x : ℕ) → 32 ∷ 32 ∷ fourBytes x ≡ sixOf lead n → after ≡ sets out at (32 ∷ 32 ∷ fourBytes x) → after ≡ sets out at (sixOf lead n)
+    few x e p = rw (← e) p
+
+    pub shown : (w : ℕ) → sixOf lead n ≡ fieldOf w → after ≡ sets out at (sixOf lead n) → after ≡ sets out at (fieldOf w)
+    shown w e p = rw (← e) p
+
+    module _ (w x : ℕ) (field : sixOf lead n ≡ fieldOf w) (e : x ≡ fourOf n) where
+      all-four : fourBytes x ≡ digit (n / 1000) ∷ digit (n / 100) ∷ digit (n / 10) ∷ digit n ∷ []
+      all-four = rw (e, four-bytes (digit (n / 1000)) (digit (n / 100)) (digit (n / 10)) (digit n) (omega arith) (omega arith) (omega arith))
+
+      pub four : 1000 ≤ n → n < 10000 → after ≡ sets out at (32 ∷ lead ∷ fourBytes x) → after ≡ sets out at (fieldOf w)
+      unfolding sixOf
+      four h k p = p ∙ ap (λ l. sets out at (32 ∷ lead ∷ l)) all-four ∙ rw (← field, four-digits 1 n h k)
+
+      pub five : (d : ℕ) → 10000 ≤ n → n < 2 ^ 16 → d ≡ digit (n / 10000) → after ≡ sets out at (lead ∷ d ∷ fourBytes x) → after ≡ sets out at (fieldOf w)
+      unfolding sixOf
+      five d h k e p = p ∙ ap (λ l. sets out at (lead ∷ d ∷ l)) all-four ∙ rw (← field, five-digits n h (omega arith), e)

@@ -1,7 +1,7 @@
 -- Document 01, "The lines": a number field as it is read, column by column.
 use mathlib.Core.Bool.{Bool, true, false, _&&_}
 use mathlib.Core.List.{List, [], _∷_}
-use Prim.Native.Nat.{ℕ, zero, suc, _+_, _-_, _*_, _%_, _^_, _<_}
+use Prim.Native.Nat.{ℕ, zero, suc, _+_, _-_, _*_, _%_}
 use lib.Dec.{leb, eqb}
 use lib.ListN.{getD}
 use Rattle.units.specs.Choice.{if_then_else_}
@@ -15,16 +15,16 @@ abbrev pub digitOf : Bool → ℕ → ℕ → Scan
 digitOf minus m b = if leb 48 b && leb b 57 then Digits minus (m * 10 + (b - 48)) else Spoiled
 
 -- "blanks, then at most one sign, then digits"
-abbrev pub stepOf : Scan → ℕ → Scan
-stepOf Blank b = if eqb b 32 then Blank else if eqb b 45 then Sign true else if eqb b 43 then Sign false else digitOf false 0 b
-stepOf (Sign minus) b = digitOf minus 0 b
-stepOf (Digits minus m) b = digitOf minus m b
-stepOf Spoiled b = Spoiled
+abbrev pub afterColumn : Scan → ℕ → Scan
+afterColumn Blank b = if eqb b 32 then Blank else if eqb b 45 then Sign true else if eqb b 43 then Sign false else digitOf false 0 b
+afterColumn (Sign minus) b = digitOf minus 0 b
+afterColumn (Digits minus m) b = digitOf minus m b
+afterColumn Spoiled b = Spoiled
 
 -- one column after the other
 abbrev pub scanOf : Scan → List ℕ → Scan
 scanOf s [] = s
-scanOf s (b ∷ bs) = scanOf (stepOf s b) bs
+scanOf s (b ∷ bs) = scanOf (afterColumn s b) bs
 
 -- "its value lies in -32768 to 32767", and "    -0" is 0
 abbrev pub valueOf : Bool → ℕ → Number
@@ -47,9 +47,9 @@ unfoldable pub columns : ℕ → List ℕ → ℕ → List ℕ
 columns zero line at = []
 columns (suc n) line at = getD line at 32 ∷ columns n line (suc at)
 
--- at most n digits were read
-abbrev pub Short : ℕ → Scan → Type 0
-Short n Blank = Unit {0}
-Short n (Sign minus) = Unit {0}
-Short n (Digits minus m) = m < 10 ^ n
-Short n Spoiled = Unit {0}
+-- the value of the digits so far
+abbrev pub soFar : Scan → ℕ
+soFar Blank = 0
+soFar (Sign minus) = 0
+soFar (Digits minus m) = m
+soFar Spoiled = 0

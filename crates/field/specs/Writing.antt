@@ -14,7 +14,7 @@ magnitudeOf w = if ltb w 32768 then w else 65536 - w
 abbrev pub signOf : ℕ → List ℕ
 signOf w = if ltb w 32768 then [] else 45 ∷ []
 
--- so many blanks
+-- `n` blanks
 abbrev pub blanks : ℕ → List ℕ
 blanks n = replicate n 32
 

@@ -1,13 +1,14 @@
 // A number in six columns of a line. A word, 0 to 65535, stands for its value in two's complement.
 use units::Bytes;
 ghost use mathlib.Core.Path.{_≡_};
+ghost use mathlib.Core.List.{[], _∷_};
 ghost use Prim.Native.Nat.{_+_, _<_, _≤_};
 ghost use lib.ListN.{length};
 ghost use lib.Seq.{sets};
-ghost use Rattle.field.specs.Writing.{magnitudeOf, blanks, fieldOf};
-ghost use Rattle.units.specs.Decimal.{decimal};
-ghost use Rattle.field.specs.Putting.{lastTwo, lastFour, fourBytes, Put};
-ghost use Rattle.field.specs.Reading.{digitOf, stepOf, valueOf, finishOf, readField, columns, Short};
+ghost use Rattle.units.specs.Decimal.{digit};
+ghost use Rattle.field.specs.Writing.{fieldOf};
+ghost use Rattle.field.specs.Putting.{fourOf, fourBytes, sixOf};
+ghost use Rattle.field.specs.Reading.{digitOf, afterColumn, valueOf, finishOf, readField, columns, soFar};
 
 // What a field holds.
 pub enum Number {
@@ -23,34 +24,37 @@ pub enum Scan {
     Spoiled,
 }
 
-// How far the value of a word lies from 0.
-fn magnitude(w: u16) -> u16
-    ensures { λ r. ⌜ r ≡ magnitudeOf w ⌝ }
-{
-    if w < 32768 { w } else { 65535 - w + 1 }
+// What a field shows of a word: what stands right before the digits, a minus or one more blank, and the number that they say.
+struct Shown {
+    lead: u32,
+    number: u16,
 }
 
-fn put_blanks(out: &mut [u8], at: usize)
-    requires { ⌜ at + 6 ≤ length (now out) ⌝ }
-    ensures { λ _. ⌜ now (out .exit) ≡ sets (now (out .entry)) at (blanks 6) ⌝ }
+fn split(w: u16) -> Shown
+    ensures { λ r. ⌜ (sixOf (r .lead) (r .number) ≡ fieldOf w) × (r .lead < 256) ⌝ }
 {
-    put_bytes(out, at, 0x2020_2020);
-    out[at + 4] = 32;
-    out[at + 5] = 32;
+    if w < 32768 {
+        return Shown {
+            lead: 32,
+            number: w,
+        };
+    }
+    Shown {
+        lead: 45,
+        number: 65535 - w + 1,
+    }
 }
 
-fn put_two(out: &mut [u8], at: usize, n: u16)
-    requires { ⌜ at + 2 ≤ length (now out) ⌝ }
-    ensures { λ _. ⌜ now (out .exit) ≡ sets (now (out .entry)) at (lastTwo n) ⌝ }
+// The last digit of a number.
+fn digit_of(n: u16) -> u8
+    ensures { λ r. ⌜ r ≡ digit n ⌝ }
 {
-    let pair = n % 100;
-    out[at + 1] = 48 + (pair % 10) as u8;
-    out[at] = 48 + (pair / 10) as u8;
+    48 + (n % 10) as u8
 }
 
 // The number whose bytes are the last four digits. One product gives the tens of both pairs: below 100 a tenth is 103 / 1024.
 fn four_digits(n: u16) -> u32
-    ensures { λ r. ⌜ fourBytes r ≡ lastFour n ⌝ }
+    ensures { λ r. ⌜ r ≡ fourOf n ⌝ }
 {
     let last = (n % 10000) as u32;
     let high = last / 100;
@@ -62,76 +66,72 @@ fn four_digits(n: u16) -> u32
     tens + ones * 256 + 0x3030_3030
 }
 
-// The bytes of a number, the lowest first. A function of its own, so that the compiler makes one store of the four.
-fn put_bytes(out: &mut [u8], at: usize, x: u32)
-    requires { ⌜ at + 4 ≤ length (now out) ⌝ }
-    ensures { λ _. ⌜ now (out .exit) ≡ sets (now (out .entry)) at (fourBytes x) ⌝ }
+// The number whose bytes are the last four columns of a number of two or three digits. Of three, the lead takes the place of a zero before them.
+fn few(lead: u32, n: u16) -> u32
+    requires { ⌜ (lead < 256) × (10 ≤ n) × (n < 1000) ⌝ }
+    ensures { λ r. ⌜ 32 ∷ 32 ∷ fourBytes r ≡ sixOf lead n ⌝ }
 {
-    out[at] = (x % 256) as u8;
-    out[at + 1] = (x / 256 % 256) as u8;
-    out[at + 2] = (x / 65536 % 256) as u8;
-    out[at + 3] = (x / 16777216) as u8;
+    if n < 100 {
+        let m = n as u32;
+        return 0x3030_0020 + lead * 256 + (m / 10 + m % 10 * 256) * 65536;
+    }
+    four_digits(n) - 48 + lead
 }
 
-fn put_four(out: &mut [u8], at: usize, n: u16)
-    requires { ⌜ at + 4 ≤ length (now out) ⌝ }
-    ensures { λ _. ⌜ now (out .exit) ≡ sets (now (out .entry)) at (lastFour n) ⌝ }
+fn put_six(out: &mut [u8], at: usize, a: u8, b: u8, c: u8, d: u8, e: u8, f: u8)
+    requires { ⌜ at + 6 ≤ length (now out) ⌝ }
+    ensures { λ _. ⌜ now (out .exit) ≡ sets (now (out .entry)) at (a ∷ b ∷ c ∷ d ∷ e ∷ f ∷ []) ⌝ }
 {
-    put_bytes(out, at, four_digits(n));
+    out[at] = a;
+    out[at + 1] = b;
+    out[at + 2] = c;
+    out[at + 3] = d;
+    out[at + 4] = e;
+    out[at + 5] = f;
 }
 
-// The digits of a number below 1000, to the last of six columns; gives the first one's column.
-fn put_few(out: &mut [u8], at: usize, n: u16) -> usize
-    requires { ⌜ (at + 6 ≤ length (now out)) × (n < 1000) ⌝ }
-    ensures { λ r. ⌜ Put (now (out .entry)) (now (out .exit)) (decimal 5 n) (at + 6) r ⌝ }
+// The first two columns, and a number whose bytes are the other four. A function of its own, so that the compiler makes one store of the four.
+fn put_columns(out: &mut [u8], at: usize, a: u8, b: u8, x: u32)
+    requires { ⌜ at + 6 ≤ length (now out) ⌝ }
+    ensures { λ _. ⌜ now (out .exit) ≡ sets (now (out .entry)) at (a ∷ b ∷ fourBytes x) ⌝ }
+{
+    let c = (x % 256) as u8;
+    let d = (x / 256 % 256) as u8;
+    let e = (x / 65536 % 256) as u8;
+    let f = (x / 16777216) as u8;
+    put_six(out, at, a, b, c, d, e, f);
+}
+
+// The field of a number below 1000, `lead` right before its digits.
+fn put_few(out: &mut [u8], at: usize, lead: u32, n: u16)
+    requires { ⌜ (at + 6 ≤ length (now out)) × (lead < 256) × (n < 1000) ⌝ }
+    ensures { λ _. ⌜ now (out .exit) ≡ sets (now (out .entry)) at (sixOf lead n) ⌝ }
 {
     if n < 10 {
-        out[at + 5] = 48 + n as u8;
-        return at + 5;
+        put_six(out, at, 32, 32, 32, 32, lead as u8, digit_of(n));
+        return;
     }
-    // twice, since the compiler drops the remainder where n is known to be below 100
-    if n < 100 {
-        put_two(out, at + 4, n);
-        return at + 4;
-    }
-    put_two(out, at + 4, n);
-    out[at + 3] = 48 + (n / 100) as u8;
-    at + 3
+    put_columns(out, at, 32, 32, few(lead, n));
 }
 
-// The digits of any number, in the same way.
-fn put_digits(out: &mut [u8], at: usize, n: u16) -> usize
-    requires { ⌜ at + 6 ≤ length (now out) ⌝ }
-    ensures { λ r. ⌜ Put (now (out .entry)) (now (out .exit)) (decimal 5 n) (at + 6) r ⌝ }
+// Writes a word into the six columns from place `at` on; all other bytes stay.
+pub fn write_field(out: &mut [u8], at: Bytes, w: u16)
+    requires { ⌜ at .0 + 6 ≤ length (now out) ⌝ }
+    ensures { λ _. ⌜ now (out .exit) ≡ sets (now (out .entry)) (at .0) (fieldOf w) ⌝ }
 {
+    let first = at.0;
+    let shown = split(w);
+    let lead = shown.lead;
+    let n = shown.number;
     if n < 1000 {
-        return put_few(out, at, n);
+        put_few(out, first, lead, n);
+        return;
     }
     if n < 10000 {
-        put_four(out, at + 2, n);
-        return at + 2;
+        put_columns(out, first, 32, lead as u8, four_digits(n));
+        return;
     }
-    put_four(out, at + 2, n);
-    out[at + 1] = 48 + (n / 10000) as u8;
-    at + 1
-}
-
-// Writes a word into its six columns; all other bytes stay.
-fn put_field(out: &mut [u8], at: usize, w: u16)
-    requires { ⌜ at + 6 ≤ length (now out) ⌝ }
-    ensures { λ _. ⌜ now (out .exit) ≡ sets (now (out .entry)) at (fieldOf w) ⌝ }
-{
-    put_blanks(out, at);
-    let first = put_digits(out, at, magnitude(w));
-    if 32768 <= w {
-        out[first - 1] = 45;
-    }
-}
-
-fn wide(x: u8) -> u32
-    ensures { λ r. ⌜ (r ≡ x) × (r < 256) ⌝ }
-{
-    x as u32
+    put_columns(out, first, lead as u8, digit_of(n / 10000), four_digits(n));
 }
 
 // A digit after the value m: what is below the digits wraps to far above them, so that one test is enough.
@@ -139,7 +139,7 @@ fn with_digit(minus: bool, m: u32, b: u8) -> Scan
     requires { ⌜ m < 100000 ⌝ }
     ensures { λ r. ⌜ r ≡ digitOf minus m b ⌝ }
 {
-    let d = std::num::wrapping_sub_u32(wide(b), 48);
+    let d = std::num::wrapping_sub_u32(b as u32, 48);
     if 9 < d {
         return Scan::Spoiled;
     }
@@ -149,8 +149,8 @@ fn with_digit(minus: bool, m: u32, b: u8) -> Scan
 
 // One column more.
 fn step(s: Scan, b: u8) -> Scan
-    requires { ⌜ Short 5 s ⌝ }
-    ensures { λ r. ⌜ r ≡ stepOf s b ⌝ }
+    requires { ⌜ soFar s < 100000 ⌝ }
+    ensures { λ r. ⌜ r ≡ afterColumn s b ⌝ }
 {
     match s {
         Scan::Blank => {
@@ -201,7 +201,7 @@ fn finish(s: Scan) -> Number
     }
 }
 
-// Reads the field of a line whose first column is `at`, counted from 0. Where the line ends before it does, its last column is blank.
+// Where the line ends before its sixth column, that is blank. Apart from `read_field`, since the compiler then makes more of the loop.
 fn scan_field(line: &[u8], at: usize) -> Number
     ensures { λ r. ⌜ r ≡ readField (columns 6 (now (line .entry)) at) ⌝ }
 {
@@ -218,14 +218,6 @@ fn scan_field(line: &[u8], at: usize) -> Number
         i += 1;
     }
     finish(s)
-}
-
-// Writes a word into the six columns from place `at` on; all other bytes stay.
-pub fn write_field(out: &mut [u8], at: Bytes, w: u16)
-    requires { ⌜ at .0 + 6 ≤ length (now out) ⌝ }
-    ensures { λ _. ⌜ now (out .exit) ≡ sets (now (out .entry)) (at .0) (fieldOf w) ⌝ }
-{
-    put_field(out, at.0, w);
 }
 
 // Reads the six columns from place `at` on of a line; columns that it lacks are blank.

@@ -1,3 +1,2 @@
 pub mod Rising
 pub mod Search
-pub mod Threes

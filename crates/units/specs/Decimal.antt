@@ -8,7 +8,7 @@ use Rattle.units.specs.Choice.{if_then_else_}
 abbrev pub digit : ℕ → ℕ
 digit n = 48 + n % 10
 
--- "no leading zeros": the digits of a number that has at most so many
+-- "no leading zeros": the digits of a number that has at most `most`
 unfoldable pub decimal : ℕ → ℕ → List ℕ
 decimal zero n = []
 decimal (suc most) n = (if ltb n 10 then [] else decimal most (n / 10)) ++ digit n ∷ []

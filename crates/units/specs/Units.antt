@@ -1,12 +1,17 @@
 -- Document 01, "Units": words, lines and bytes, and the conversions between them. There are no others.
+use mathlib.Core.List.{List}
 use Prim.Native.Nat.{ℕ, _+_, _*_, _/_}
 use mathlib.Core.List.{List}
+
+-- a line is its bytes, without its end
+abbrev pub Line : Type 0
+Line = List ℕ
 
 -- "Words are 16 bits": two bytes each
 abbrev pub bytesOfWords : ℕ → ℕ
 bytesOfWords w = w * 2
 
--- the whole words that stand in so many bytes
+-- the whole words that stand in `b` bytes
 abbrev pub wordsOfBytes : ℕ → ℕ
 wordsOfBytes b = b / 2
 
@@ -14,7 +19,7 @@ wordsOfBytes b = b / 2
 abbrev pub linesOfCards : ℕ → ℕ
 linesOfCards w = w / 40
 
--- the words of so many such lines
+-- the words of `l` such lines
 abbrev pub wordsOfCards : ℕ → ℕ
 wordsOfCards l = 40 * l
 

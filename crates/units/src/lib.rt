@@ -21,7 +21,7 @@ pub struct Answer {
     pub c: u16,
 }
 
-// The bytes that so many words take.
+// The bytes that `w` words take.
 pub fn bytes_of_words(w: Words) -> Bytes
     requires { ⌜ w .0 < 2 ^ 62 ⌝ }
     ensures { λ r. ⌜ r .0 ≡ bytesOfWords (w .0) ⌝ }
@@ -29,7 +29,7 @@ pub fn bytes_of_words(w: Words) -> Bytes
     Bytes(w.0 * 2)
 }
 
-// The whole words that so many bytes hold.
+// The whole words that `b` bytes hold.
 pub fn words_of_bytes(b: Bytes) -> Words
     ensures { λ r. ⌜ r .0 ≡ wordsOfBytes (b .0) ⌝ }
 {
@@ -50,7 +50,7 @@ pub fn lines_said(w: u16) -> Lines
     Lines(w as usize)
 }
 
-// The word that says so many words.
+// The word that says `w` words.
 pub fn saying_words(w: Words) -> u16
     requires { ⌜ w .0 < 65536 ⌝ }
     ensures { λ r. ⌜ r ≡ w .0 ⌝ }
@@ -58,7 +58,7 @@ pub fn saying_words(w: Words) -> u16
     w.0 as u16
 }
 
-// The word that says so many lines.
+// The word that says `l` lines.
 pub fn saying_lines(l: Lines) -> u16
     requires { ⌜ l .0 < 65536 ⌝ }
     ensures { λ r. ⌜ r ≡ l .0 ⌝ }
@@ -66,14 +66,14 @@ pub fn saying_lines(l: Lines) -> u16
     l.0 as u16
 }
 
-// The lines of a Catalogue or a Header of so many words: its prologue and each card is one.
+// The lines of a Catalogue or a Header of `w` words: its prologue and each card is one.
 pub fn lines_of_cards(w: Words) -> Lines
     ensures { λ r. ⌜ r .0 ≡ linesOfCards (w .0) ⌝ }
 {
     Lines(w.0 / 40)
 }
 
-// The words of a Catalogue or a Header of so many lines.
+// The words of a Catalogue or a Header of `l` lines.
 pub fn words_of_cards(l: Lines) -> Words
     requires { ⌜ l .0 < 2 ^ 32 ⌝ }
     ensures { λ r. ⌜ r .0 ≡ wordsOfCards (l .0) ⌝ }
@@ -81,7 +81,7 @@ pub fn words_of_cards(l: Lines) -> Words
     Words(40 * l.0)
 }
 
-// The lines that a part of so many words takes, 20 fields a line.
+// The lines that a part of `w` words takes, 20 fields a line.
 pub fn lines_of_fields(w: Words) -> Lines
     ensures { λ r. ⌜ r .0 ≡ linesOfFields (w .0) ⌝ }
 {
@@ -104,7 +104,7 @@ pub fn row(n: u8, a: u16, b: u16, c: u16) -> Answer
     }
 }
 
-// An answer that says a number of bytes.
+// The answer of row n that says `size` bytes.
 pub fn sized(n: u8, size: Bytes) -> Answer
     requires { ⌜ size .0 < 2 ^ 24 ⌝ }
     ensures { λ r. ⌜ r ≡ answer n (size .0) 0 0 ⌝ }
@@ -130,7 +130,7 @@ pub fn pack(r: Answer) -> u64
     (n as u64) * 72057594037927936 + (a as u64) * 4294967296 + (b as u64) * 65536 + (c as u64)
 }
 
-// The columns that so many fields take, six each, as bytes of a line.
+// The columns that the fields of `w` words take, six each, as bytes of a line.
 pub fn columns_of_fields(w: Words) -> Bytes
     requires { ⌜ w .0 < 2 ^ 32 ⌝ }
     ensures { λ r. ⌜ r .0 ≡ columnsOfFields (w .0) ⌝ }
@@ -138,7 +138,7 @@ pub fn columns_of_fields(w: Words) -> Bytes
     Bytes(6 * w.0)
 }
 
-// The line ends of so many lines, a byte each.
+// The ends of `l` lines, a byte each.
 pub fn ends_of_lines(l: Lines) -> Bytes
     ensures { λ r. ⌜ r .0 ≡ endsOfLines (l .0) ⌝ }
 {

@@ -1,28 +1,31 @@
--- `prefix::letters_at` meets its contract: the bytes are the prefixes of the table, three bytes each.
+-- the bytes are the prefixes of the table, three bytes each
+use mathlib.Core.Path.{_≡_, refl}
+use mathlib.Core.List.{List, [], _∷_}
+use Prim.Native.Nat.{ℕ, zero, suc, _+_, _*_, _<_}
 use native.Mathlib.Omega.{arith}
 use borrow.Author.Needs.{needs}
+use lib.ListN.{length, getD}
+use Rattle.prefix.specs.declared.Letters.{Letters}
 use Rattle.prefix.specs.Table.{table, prefixes, dashes}
-use Rattle.prefix.proofs.Threes.{threes, three-at}
 use Rattle.prefix.proofs.letters_at.Statement.{statement}
 use Rattle.prefix.proofs.letters_at.Tie as tie
 
-mul-at : tie.Need-mul-at
-mul-at c = search needs
+unfoldable threes : List Letters → List ℕ
+threes [] = []
+threes (p ∷ ps) = p .0 ∷ p .1 ∷ p .2 ∷ threes ps
 
-array-read-first : tie.Need-array-read-first
-array-read-first c = search needs
+-- the three letters that stand from a place on
+abbrev three : List ℕ → ℕ → Letters
+three bytes at = record { 0 = getD bytes at 0; 1 = getD bytes (at + 1) 0; 2 = getD bytes (at + 2) 0 }
 
-add-second : tie.Need-add-second
-add-second c = search needs
-
-array-read-second : tie.Need-array-read-second
-array-read-second c = search needs
-
-add-third : tie.Need-add-third
-add-third c = search needs
-
-array-read-third : tie.Need-array-read-third
-array-read-third c = search needs
+three-at : (ps : List Letters) (row : ℕ) (other : Letters) → row < length ps → three (threes ps) (row * 3) ≡ getD ps row other
+unfolding threes
+three-at [] row other h = absurd (omega arith)
+three-at (p ∷ ps) zero other h = refl
+three-at (p ∷ ps) (suc row) other h =
+    let on : (k : ℕ) → suc row * 3 + k ≡ suc (suc (suc (row * 3 + k))) = λ k. omega arith in
+    let on-zero : suc row * 3 ≡ suc (suc (suc (row * 3))) = omega arith in
+    rw (on 1, on 2, on-zero) (three-at ps row other (omega arith))
 
 returns : tie.Need-returns
 unfolding table threes
@@ -32,10 +35,10 @@ pub letters-at-spec : {M : Type 1} → statement M
 letters-at-spec =
     tie.close
     (tie.spec
-    mul-at
-    array-read-first
-    add-second
-    array-read-second
-    add-third
-    array-read-third
+    (λ c. search needs)
+    (λ c. search needs)
+    (λ c. search needs)
+    (λ c. search needs)
+    (λ c. search needs)
+    (λ c. search needs)
     returns)
