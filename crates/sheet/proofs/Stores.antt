@@ -15,7 +15,7 @@ use Rattle.words.proofs.Lists.{all-at}
 use Rattle.units.proofs.Verdicts.{or-off}
 use borrow.Author.Tests.{eqb-true, not-false}
 use Rattle.sheet.specs.Sheets.{Layout, Entry, version1, sheetBytes, sheetWith, sheetOf, entriesOf, wrongMark, broken}
-use Rattle.sheet.specs.Rules.{IsEntry, KeepsLayout}
+use Rattle.sheet.specs.Rules.{IsEntry, KeepsLayout, Holds}
 use Rattle.sheet.proofs.Entries.{entry-added, entry-cleared, entry-number}
 
 -- the two bytes behind so many are a number
@@ -74,16 +74,16 @@ unfolding sheetOf sheetWith bytesOf joined
 start-put s l h e = rw (e, h) (ap (λ t. 65 ∷ 77 ∷ 68 ∷ 0 ∷ 1 ∷ 0 ∷ 0 ∷ 0 ∷ t) (zero-bytes 256))
 
 -- an entry put behind those that stand, and the count
-pub added : (y : Layout) (s : List ℕ) (count : ℕ) (e : Entry) {s₁ s₂ : List ℕ} → KeepsLayout y s → count ≡ length (entriesOf y s) → count < y .limit → length e ≡ y .words
+pub added : {y : Layout} {s : List ℕ} {count : ℕ} {s₁ s₂ : List ℕ} (e : Entry) → Holds y s count → count < y .limit → length e ≡ y .words
     → s₁ ≡ sets s (8 + bytesOfWords (count * y .words)) (bytesOf e) → s₂ ≡ sets s₁ 5 (bytesOf ((count + 1) ∷ [])) → s₂ ≡ sheetOf y (entriesOf y s ++ e ∷ [])
-added y s count e h n room size e₁ e₂ = rw (e₂, e₁, n) (entry-added y s (entriesOf y s) e h (omega arith) size)
+added {y} {s} {count} e h room size e₁ e₂ = rw (e₂, e₁, h .count-is) (entry-added y s (entriesOf y s) e (h .layout) (omega (arith, h .count-is)) size)
 
 -- zeros in place of the last entry, and the count
-pub removed : (y : Layout) (s : List ℕ) (left : ℕ) {s₁ s₂ : List ℕ} → KeepsLayout y s → left + 1 ≡ length (entriesOf y s)
+pub removed : {y : Layout} {s s₁ s₂ : List ℕ} (left : ℕ) → Holds y s (left + 1)
     → s₁ ≡ sets s (8 + bytesOfWords (left * y .words)) (bytesOf (replicate (y .words) 0)) → s₂ ≡ sets s₁ 5 (bytesOf (left ∷ [])) → s₂ ≡ sheetOf y (take left (entriesOf y s))
-removed y s left h n e₁ e₂ =
-    let l : left ≡ length (entriesOf y s) - 1 = omega (arith, n) in
-    rw (e₂, e₁, l) (entry-cleared y s (entriesOf y s) h (omega (arith, n)))
+removed {y} {s} left h e₁ e₂ =
+    let l : left ≡ length (entriesOf y s) - 1 = omega (arith, h .count-is) in
+    rw (e₂, e₁, l) (entry-cleared y s (entriesOf y s) (h .layout) (omega (arith, h .count-is)))
 
 -- a list of four, number by number
 four-of : (e : List ℕ) → length e ≡ 4 → e ≡ getD e 0 0 ∷ getD e 1 0 ∷ getD e 2 0 ∷ getD e 3 0 ∷ []

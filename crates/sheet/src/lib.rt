@@ -13,7 +13,7 @@ ghost use Rattle.units.specs.Answers.{answered};
 ghost use Rattle.words.specs.Words.{bytesOf};
 ghost use Rattle.words.specs.Outcomes.{leaves};
 ghost use Rattle.sheet.specs.Sheets.{version1, sheetBytes, sheetOf, numberAt, numbersIn, entriesOf, zeros, wrongMark, broken, opened, started};
-ghost use Rattle.sheet.specs.Rules.{KeepsLayout};
+ghost use Rattle.sheet.specs.Rules.{KeepsLayout, Holds};
 ghost use Rattle.sheet.specs.Cases.{entryOf, openedOf};
 
 const VERSION: u16 = 1;
@@ -186,7 +186,7 @@ fn put_numbers(sheet: &mut [u8], i: u16, e: Amendment)
 
 // Adds an entry after the `count` that stand.
 pub fn add_entry(sheet: &mut [u8], count: u16, e: Amendment)
-    requires { ⌜ KeepsLayout version1 (now sheet) × (count ≡ length (entriesOf version1 (now sheet))) × (count < version1 .limit) ⌝ }
+    requires { ⌜ Holds version1 (now sheet) count × (count < version1 .limit) ⌝ }
     ensures { λ _. ⌜ now (sheet .exit) ≡ sheetOf version1 (entriesOf version1 (now (sheet .entry)) ++ entryOf e ∷ []) ⌝ }
 {
     put_numbers(sheet, count, e);
@@ -195,7 +195,7 @@ pub fn add_entry(sheet: &mut [u8], count: u16, e: Amendment)
 
 // Clears the last of the entries, with `left` before it.
 pub fn clear_last(sheet: &mut [u8], left: u16)
-    requires { ⌜ KeepsLayout version1 (now sheet) × (left + 1 ≡ length (entriesOf version1 (now sheet))) ⌝ }
+    requires { ⌜ Holds version1 (now sheet) (left + 1) ⌝ }
     ensures { λ _. ⌜ now (sheet .exit) ≡ sheetOf version1 (take left (entriesOf version1 (now (sheet .entry)))) ⌝ }
 {
     let none = Amendment {

@@ -1,57 +1,35 @@
 use denote.Ref.{now}
-use mathlib.Core.Path.{_≡_, sym, ap, ap₂, _∙_}
+use lib.ListN.{getD}
+use mathlib.Core.Path.{_≡_, _∙_}
+use Prim.Native.Nat.{_-_}
 use native.Mathlib.Omega.{arith}
-use Prim.Native.Nat.{ℕ, _+_, _-_}
-use lib.Seq.{slice, length-slice}
-use Rattle.record.specs.Values.{isValue}
-use Rattle.words.proofs.Laws.{words-slice, length-wordsOf}
-use Rattle.words.specs.Words.{wordsOf}
-use Rattle.units.specs.Answers.{passed}
 use borrow.Author.Needs.{needs}
+use borrow.Author.Tests.{not-false, eq-eqb, ne-eqb}
+use Rattle.words.specs.Words.{wordsOf}
+use Rattle.record.specs.Values.{isValue}
+use Rattle.record.proofs.Values.{ValueAt, value-at}
+use Rattle.block.proofs.Exact.{ok-long}
 use Rattle.amending.proofs.value_in.Statement.{statement}
 use Rattle.amending.proofs.value_in.Tie as tie
 
-its-words : (c : tie.After-part) → let a = c .before .before .before .args in
-    wordsOf (now (c .part .result)) ≡ slice (a .at .0) (a .at .0 + a .size .0) (wordsOf (now (a .block)))
-its-words c = let a = c .before .before .before .args in ap wordsOf (c .part .ensures) ∙ words-slice (a .at .0) (a .at .0 + a .size .0) (now (a .block))
+tested : (c : tie.After-is-value) → let a = c .before .before .before .args in isValue (wordsOf (now (a .whole))) (a .word) ≡ c .is-value .result
+tested c = cc
 
-its-test : (c : tie.After-is-value) → let a = c .before .before .before .before .args in
-    isValue (slice (a .at .0) (a .at .0 + a .size .0) (wordsOf (now (a .block)))) (a .word) ≡ c .is-value .result
-its-test c = ap₂ isValue (sym (its-words (c .before))) (sym (c .before .before .words-said .ensures .0)) ∙ sym (c .is-value .ensures)
+it : (c : tie.Else1) → let a = c .before .before .before .before .args in ValueAt (wordsOf (now (a .whole))) (a .word)
+it c = value-at _ _ (c .before .before .before .before .pre .0) (tested (c .before) ∙ not-false _ (c .if1 .left))
 
-add-end : tie.Need-add-end
-add-end c = omega (arith, length-wordsOf (now (c .before .args .block)), c .before .pre .2)
-
-words-said-requires : tie.Need-words-said-requires
-words-said-requires c κs = search needs
-
-add-before : tie.Need-add-before
-add-before c = omega (arith, length-wordsOf (now (c .before .before .args .block)), c .before .before .pre .2, c .words-said .ensures .0)
-
-sub-before : tie.Need-sub-before
-sub-before c = search needs
-
-part-requires : tie.Need-part-requires
-part-requires c κs = search needs
-
-is-value-requires : tie.Need-is-value-requires
-is-value-requires c κs = let a = c .before .before .before .args in rw (its-words c) (omega (arith, length-slice (a .at .0) (a .at .0 + a .size .0) (wordsOf (now (a .block))) (c .before .before .before .pre .2), c .before .before .before .pre .1))
-
-returns : tie.Need-returns
-returns c = rw (its-test (c .before) ∙ c .if1 .taken) (ap (λ (w : ℕ). passed (c .before .before .before .before .before .args .at .0 + w - 1)) (c .before .before .before .words-said .ensures .0))
-
-returns-2 : tie.Need-returns-2
-returns-2 c = rw (its-test (c .before) ∙ c .if1 .left)
+read : (c : tie.After-word-at) → let a = c .before .before .before .before .before .before .args in getD (wordsOf (now (a .whole))) (a .word - 1) 0 ≡ c .word-at .result
+read c = cc
 
 pub value-in-spec : {M : Type 1} → statement M
 value-in-spec =
     tie.close
     (tie.spec
-    add-end
-    words-said-requires
-    add-before
-    sub-before
-    part-requires
-    is-value-requires
-    returns
-    returns-2)
+    (λ c κs. tt)
+    (λ c κs. ok-long _ (c .before .before .pre .0))
+    (λ c. simp (tested (c .before), c .if1 .taken))
+    (λ c. omega (arith, it (c .before)))
+    (λ c κs. omega (arith, it (c .before)))
+    (λ c. simp (tested (c .before .before .before .before), c .before .before .before .if1 .left, read (c .before), ne-eqb _ _ (c .if2 .taken)))
+    (λ c. search needs)
+    (λ c. simp (tested (c .before .before .before .before), c .before .before .before .if1 .left, read (c .before), eq-eqb _ _ (c .if2 .left), c .before .before .before .before .before .words-said .ensures .0)))

@@ -1,4 +1,3 @@
-use Rattle.sheet.specs.Cases.{entryOf}
 use mathlib.Core.Path.{refl}
 use denote.Ref.{now}
 use native.Mathlib.Omega.{arith}
@@ -14,19 +13,19 @@ abbrev start-before-sheet2 : tie.After-sheet2 → tie.Start
 start-before-sheet2 c = c .before .before .before .before .before .before .before .before
 
 put-numbers-requires : tie.Need-put-numbers-requires
-put-numbers-requires c κs = let s = now (c .before .before .args .sheet) in (c .before .before .pre .2, length-sheet version1 s (entriesOf version1 s) (c .before .before .pre .0))
+put-numbers-requires c κs = let s = now (c .before .before .args .sheet) in (c .before .before .pre .1, length-sheet version1 s (entriesOf version1 s) (c .before .before .pre .0 .layout))
 
 add-put-count : tie.Need-add-put-count
 add-put-count c = search needs
 
 put-count-requires : tie.Need-put-count-requires
-put-count-requires c κs = let s = now (c .before .before .before .before .before .before .args .sheet) in omega (arith, c .before .before .before .put-numbers .kept .0, length-sheet version1 s (entriesOf version1 s) (c .before .before .before .before .before .before .pre .0))
+put-count-requires c κs = let s = now (c .before .before .before .before .before .before .args .sheet) in omega (arith, c .before .before .before .put-numbers .kept .0, length-sheet version1 s (entriesOf version1 s) (c .before .before .before .before .before .before .pre .0 .layout))
 
 same-length : tie.Need-same-length
 same-length c = search needs
 
 returns : tie.Need-returns
-returns c = added version1 (now (start-before-sheet2 (c .before) .args .sheet)) (start-before-sheet2 (c .before) .args .count) (entryOf (start-before-sheet2 (c .before) .args .e)) (start-before-sheet2 (c .before) .pre .0) (start-before-sheet2 (c .before) .pre .1) (start-before-sheet2 (c .before) .pre .2) refl (c .before .before .before .before .before .before .put-numbers .ensures) (c .before .before .put-count .ensures)
+returns c = let p = start-before-sheet2 (c .before) .pre in added _ (p .0) (p .1) refl (c .before .before .before .before .before .before .put-numbers .ensures) (c .before .before .put-count .ensures)
 
 pub add-entry-spec : {M : Type 1} → statement M
 add-entry-spec =
