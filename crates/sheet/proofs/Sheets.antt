@@ -1,6 +1,6 @@
 -- A sheet that keeps its layout and a list of entries determine each other.
 use mathlib.Core.Path.{_≡_, refl, sym, ap, ap₂, _∙_}
-use mathlib.Core.Bool.{Bool, true, false, not}
+use mathlib.Core.Bool.{Bool, true, false, not, _||_}
 use mathlib.Core.List.{List, [], _∷_, _++_, append-assoc}
 use Prim.Native.Nat.{ℕ, zero, suc, _+_, _-_, _*_, _/_, _%_, _≤_, _<_}
 use native.Mathlib.Nat.{zero-mul, add-mul, mul-le-mul-right}
@@ -17,10 +17,10 @@ use Rattle.words.specs.Words.{wordsOf, bytesOf, joined, All, Below}
 use Rattle.words.proofs.Laws.{length-wordsOf, length-bytesOf, bytes-words, words-bytes, words-below, getD-below}
 use Rattle.words.proofs.Lists.{all-take, all-drop}
 use Rattle.record.specs.Judging.{passing, isZero}
-use Rattle.sheet.specs.Sheets.{Layout, Entry, sheetBytes, sheetWith, sheetOf, numberAt, countIn, numbersIn, entries, entriesOf, zeros, wrongMark, broken, opened}
+use Rattle.sheet.specs.Sheets.{Layout, Entry, sheetBytes, sheetWith, sheetOf, numberAt, countIn, numbersIn, entries, entriesOf, allZero, wrongMark, broken, opened}
 use Rattle.sheet.specs.Rules.{IsEntry, IsSheet}
 
--- a scan for words that are not zero passes zeros, and only zeros
+-- a scan for words that are not zero passes allZero, and only zeros
 zeros-pass : (n : ℕ) → passing isZero (replicate n 0) ≡ n
 unfolding passing
 zeros-pass zero = refl
@@ -112,7 +112,7 @@ module _ (v c : ℕ) (ws : List ℕ) where
   numbers-with = words-bytes ws
 
 -- the tests of a sheet, as facts
-record Kept (y : Layout) (s : List ℕ) : Type 0 where
+record Unbroken (y : Layout) (s : List ℕ) : Type 0 where
   size : length s ≡ sheetBytes y
   mark-1 : getD s 0 0 ≡ 65
   mark-2 : getD s 1 0 ≡ 77
@@ -122,45 +122,26 @@ record Kept (y : Layout) (s : List ℕ) : Type 0 where
   zero-byte : getD s 7 0 ≡ 0
   past : passing isZero (drop (countIn s * y .words) (numbersIn s)) ≡ length (drop (countIn s * y .words) (numbersIn s))
 
+or-left : (s t : Bool) → (s || t) ≡ false → s ≡ false
+or-left s t e = or-off s t e .0
+
+or-right : (s t : Bool) → (s || t) ≡ false → t ≡ false
+or-right s t e = or-off s t e .1
+
 -- a sheet that is opened passed them all
-opened-kept : (y : Layout) (s : List ℕ) (k : ℕ) → opened y s ≡ passed k → Kept y s × (countIn s ≡ k)
-unfolding opened broken zeros
-opened-kept y s k e =
+opened-unbroken : (y : Layout) (s : List ℕ) (k : ℕ) → opened y s ≡ passed k → Unbroken y s × (countIn s ≡ k)
+unfolding opened broken allZero
+opened-unbroken y s k e =
     let o = else-passed (broken y s) (answer 40 0 0 0) (passed (countIn s)) k e in
-    let a = or-off (not (eqb (length s) (sheetBytes y))) _ (o .0) in
-    let m = or-off (wrongMark s) _ (a .1) in
-    let m₁ = or-off (not (eqb (getD s 0 0) 65)) _ (m .0) in
-    let m₂ = or-off (not (eqb (getD s 1 0) 77)) _ (m₁ .1) in
-    let v = or-off (not (eqb (numberAt s 3) (y .version))) _ (m .1) in
-    let c = or-off (ltb (y .limit) (countIn s)) _ (v .1) in
-    let z = or-off (not (eqb (getD s 7 0) 0)) _ (c .1) in (
-      record {
-        size = eqb-true (length s) (sheetBytes y) (not-false _ (a .0));
-        mark-1 = eqb-true (getD s 0 0) 65 (not-false _ (m₁ .0));
-        mark-2 = eqb-true (getD s 1 0) 77 (not-false _ (m₂ .0));
-        mark-3 = eqb-true (getD s 2 0) 68 (not-false _ (m₂ .1));
-        version-is = eqb-true (numberAt s 3) (y .version) (not-false _ (v .0));
-        most = ltb-false (y .limit) (countIn s) (c .0);
-        zero-byte = eqb-true (getD s 7 0) 0 (not-false _ (z .0));
-        past = eqb-true _ _ (not-false _ (z .1));
-      },
-      cc (o .1),
-    )
+    let t = o .0 in
+    (search (or-left, or-right, not-false, eqb-true, ltb-false) depth 10, cc (o .1))
 
 -- and one that passes them all is opened
-kept-opened : (y : Layout) (s : List ℕ) → Kept y s → opened y s ≡ passed (countIn s)
-unfolding opened broken zeros
-kept-opened y s h =
-    simp (
-      eq-eqb (length s) (sheetBytes y) (h .size),
-      h .mark-1,
-      h .mark-2,
-      h .mark-3,
-      eq-eqb (numberAt s 3) (y .version) (h .version-is),
-      le-ltb (y .limit) (countIn s) (h .most),
-      h .zero-byte,
-      eq-eqb _ _ (h .past),
-    )
+unbroken-opened : (y : Layout) (s : List ℕ) → Unbroken y s → opened y s ≡ passed (countIn s)
+unfolding opened broken allZero
+unbroken-opened y s h =
+    simp (eq-eqb (length s) (sheetBytes y) (h .size), h .mark-1, h .mark-2, h .mark-3, h .zero-byte, eq-eqb _ _ (h .past))
+    (simp (eq-eqb (numberAt s 3) (y .version) (h .version-is), le-ltb (y .limit) (countIn s) (h .most)))
 
 -- ---- from the entries to the sheet
 
@@ -170,9 +151,9 @@ unfolding sheetOf
 length-sheet y s es h = ap length (h .bytes) ∙ length-with (y .version) (length es) (numbersOf y es) ∙ ap (λ n. 8 + bytesOfWords n) (length-numbers y es (h .each) (h .most))
 
 -- and passes each test
-sheet-kept : (y : Layout) (es : List Entry) → IsSheet y (sheetOf y es) es → Kept y (sheetOf y es)
+sheet-unbroken : (y : Layout) (es : List Entry) → IsSheet y (sheetOf y es) es → Unbroken y (sheetOf y es)
 unfolding sheetOf sheetWith bytesOf
-sheet-kept y es h =
+sheet-unbroken y es h =
     let v = y .version in
     let n = length es in
     let ws = numbersOf y es in
@@ -197,14 +178,14 @@ opened-sheet y s es h =
     let ws = numbersOf y es in
     let count = count-with v n ws in
     rw (h .bytes) (
-      kept-opened y (sheetOf y es) (sheet-kept y es (rw (h .bytes) at h)) ∙ ap (λ k. passed k) count,
+      unbroken-opened y (sheetOf y es) (sheet-unbroken y es (rw (h .bytes) at h)) ∙ ap (λ k. passed k) count,
       ap₂ (entries (y .words)) count (numbers-with v n ws) ∙ entries-joined y es _ (h .each),
     )
 
 -- ---- from the sheet to the entries
 
 -- bytes are the sheet of their parts
-with-parts : (y : Layout) (s : List ℕ) → Below 256 s → Kept y s → s ≡ sheetWith (y .version) (countIn s) (numbersIn s)
+with-parts : (y : Layout) (s : List ℕ) → Below 256 s → Unbroken y s → s ≡ sheetWith (y .version) (countIn s) (numbersIn s)
 unfolding sheetWith bytesOf
 with-parts y s b h =
     let d : (j : ℕ) → j < 8 → drop j s ≡ getD s j 0 ∷ drop (suc j) s = λ j k. drop-cons s j 0 (omega (arith, h .size)) in
@@ -229,7 +210,7 @@ numbers-entries y n ws most size none =
 pub sheet-opened : (y : Layout) (s : List ℕ) (k : ℕ) → Below 256 s → opened y s ≡ passed k → IsSheet y s (entriesOf y s) × (length (entriesOf y s) ≡ k)
 unfolding entriesOf sheetOf
 sheet-opened y s k b e =
-    let p = opened-kept y s k e in
+    let p = opened-unbroken y s k e in
     let h = p .0 in
     let ws = numbersIn s in
     let size : length ws ≡ y .limit * y .words = omega (arith, length-wordsOf (drop 8 s), length-drop 8 s, h .size) in

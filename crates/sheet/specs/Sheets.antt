@@ -59,8 +59,8 @@ unfoldable pub entriesOf : Layout → List ℕ → List Entry
 entriesOf y s = entries (y .words) (countIn s) (numbersIn s)
 
 -- all of them are zero
-unfoldable pub zeros : List ℕ → Bool
-zeros ws = eqb (passing isZero ws) (length ws)
+unfoldable pub allZero : List ℕ → Bool
+allZero ws = eqb (passing isZero ws) (length ws)
 
 -- the mark is wrong
 abbrev pub wrongMark : List ℕ → Bool
@@ -70,7 +70,7 @@ wrongMark s = not (eqb (getD s 0 0) 65) || (not (eqb (getD s 1 0) 77) || not (eq
 unfoldable pub broken : Layout → List ℕ → Bool
 broken y s =
     not (eqb (length s) (sheetBytes y)) || (wrongMark s || (not (eqb (numberAt s 3) (y .version)) || (ltb (y .limit) (countIn s)
-    || (not (eqb (getD s 7 0) 0) || not (zeros (drop (countIn s * y .words) (numbersIn s)))))))
+    || (not (eqb (getD s 7 0) 0) || not (allZero (drop (countIn s * y .words) (numbersIn s)))))))
 
 -- how many amendments stand, or row 40
 unfoldable pub opened : Layout → List ℕ → Verdict ℕ

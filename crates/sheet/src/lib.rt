@@ -12,7 +12,7 @@ ghost use Rattle.units.specs.Units.{bytesOfWords};
 ghost use Rattle.units.specs.Answers.{answered};
 ghost use Rattle.words.specs.Words.{bytesOf};
 ghost use Rattle.words.specs.Outcomes.{leaves};
-ghost use Rattle.sheet.specs.Sheets.{version1, sheetBytes, sheetOf, numberAt, numbersIn, entriesOf, zeros, wrongMark, broken, opened, started};
+ghost use Rattle.sheet.specs.Sheets.{version1, sheetBytes, sheetOf, numberAt, numbersIn, entriesOf, allZero, wrongMark, broken, opened, started};
 ghost use Rattle.sheet.specs.Rules.{KeepsLayout, Holds};
 ghost use Rattle.sheet.specs.Cases.{entryOf, openedOf};
 
@@ -72,7 +72,7 @@ fn before_entry(i: u16) -> Words
 // Something stands past the first `count` entries.
 fn more_stands(sheet: &[u8], count: u16) -> bool
     requires { ⌜ (count ≤ version1 .limit) × (length (now sheet) ≡ sheetBytes version1) ⌝ }
-    ensures { λ r. ⌜ r ≡ not (zeros (drop (count * version1 .words) (numbersIn (now (sheet .entry))))) ⌝ }
+    ensures { λ r. ⌜ r ≡ not (allZero (drop (count * version1 .words) (numbersIn (now (sheet .entry))))) ⌝ }
 {
     let rest = words::part(sheet, before_entry(count), before_entry(LIMIT));
     let clear = record::first_outside(rest, 0, 0).0;

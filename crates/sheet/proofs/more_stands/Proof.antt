@@ -3,7 +3,7 @@ use lib.ListN.{length}
 use lib.Dec.{eqb}
 use mathlib.Core.Bool.{not}
 use Rattle.record.specs.Judging.{passing, isZero, wordWithin}
-use Rattle.sheet.specs.Sheets.{zeros}
+use Rattle.sheet.specs.Sheets.{allZero}
 use Rattle.sheet.proofs.Stores.{words-past}
 use mathlib.Core.Path.{ap, ap₂, _∙_}
 use denote.Ref.{now}
@@ -34,7 +34,7 @@ count-requires : tie.Need-count-requires
 count-requires c κs = search needs
 
 returns : tie.Need-returns
-unfolding zeros
+unfolding allZero
 returns c = let s = now (start-before-count c .args .sheet) in
     let w = words-past s _ (c .before .before .before .before .before-entry .result .0) (c .before .before .before .before-entry2 .result .0) (start-before-count c .args .count * 4) (c .before .before .before .before .before-entry .ensures) (c .before .before .before .before-entry2 .ensures) (start-before-count c .pre .1) (c .before .before .part .ensures) in
     ap₂ (λ (k n : ℕ). not (eqb k n)) (c .before .first-outside .ensures ∙ scan-same (wordWithin 0 0) isZero zero-within _ ∙ ap (passing isZero) w) (c .count .ensures ∙ ap length w)
