@@ -1,12 +1,12 @@
 -- A sheet that keeps its layout and a list of entries determine each other.
 use mathlib.Core.Path.{_≡_, refl, sym, ap, ap₂, _∙_}
-use mathlib.Core.Bool.{Bool, true, false, not, _||_}
+use mathlib.Core.Bool.{Bool, true, false, _||_}
 use mathlib.Core.List.{List, [], _∷_, _++_, append-assoc}
 use Prim.Native.Nat.{ℕ, zero, suc, _+_, _-_, _*_, _/_, _%_, _≤_, _<_}
 use native.Mathlib.Nat.{zero-mul, add-mul, mul-le-mul-right}
 use native.Mathlib.Omega.{arith}
 use borrow.Author.Tests.{ltb-false, eqb-true, not-false, le-ltb, eq-eqb}
-use lib.Dec.{eqb, ltb}
+use lib.Dec.{eqb}
 use lib.ListN.{length, getD, take, drop, replicate, length-append, length-drop, length-replicate, take-append-drop}
 use lib.Seq.{length-take-le, take-at, drop-at, take-add, drop-cons}
 use Rattle.units.specs.Choice.{if_then_else_}
@@ -17,10 +17,10 @@ use Rattle.words.specs.Words.{wordsOf, bytesOf, joined, All, Below}
 use Rattle.words.proofs.Laws.{length-wordsOf, length-bytesOf, bytes-words, words-bytes, words-below, getD-below}
 use Rattle.words.proofs.Lists.{all-take, all-drop}
 use Rattle.record.specs.Judging.{passing, isZero}
-use Rattle.sheet.specs.Sheets.{Layout, Entry, sheetBytes, sheetWith, sheetOf, numberAt, countIn, numbersIn, entries, entriesOf, allZero, wrongMark, broken, opened}
+use Rattle.sheet.specs.Sheets.{Layout, Entry, sheetBytes, sheetWith, sheetOf, numberAt, countIn, numbersIn, entries, entriesOf, allZero, broken, opened}
 use Rattle.sheet.specs.Rules.{IsEntry, IsSheet}
 
--- a scan for words that are not zero passes allZero, and only zeros
+-- a scan for words that are not zero passes zeros, and only zeros
 zeros-pass : (n : ℕ) → passing isZero (replicate n 0) ≡ n
 unfolding passing
 zeros-pass zero = refl
@@ -62,7 +62,7 @@ joined-entries size (suc n) ws =
     rw e (ap (λ l. take size ws ++ l) (joined-entries size n (drop size ws)) ∙ sym (take-add size (n * size) ws))
 
 -- they are as many
-length-entries : (size n : ℕ) (ws : List ℕ) → length (entries size n ws) ≡ n
+pub length-entries : (size n : ℕ) (ws : List ℕ) → length (entries size n ws) ≡ n
 unfolding entries
 length-entries size zero ws = refl
 length-entries size (suc n) ws = ap suc (length-entries size n (drop size ws))
@@ -99,10 +99,6 @@ module _ (v c : ℕ) (ws : List ℕ) where
   unfolding sheetWith bytesOf
   length-with = omega (arith, length-bytesOf ws)
 
-  version-with : numberAt (sheetWith v c ws) 3 ≡ v
-  unfolding sheetWith bytesOf
-  version-with = omega arith
-
   count-with : countIn (sheetWith v c ws) ≡ c
   unfolding sheetWith bytesOf
   count-with = omega arith
@@ -112,8 +108,8 @@ module _ (v c : ℕ) (ws : List ℕ) where
   numbers-with = words-bytes ws
 
 -- the tests of a sheet, as facts
-record Unbroken (y : Layout) (s : List ℕ) : Type 0 where
-  size : length s ≡ sheetBytes y
+pub record Unbroken (y : Layout) (s : List ℕ) : Type 0 where
+  pub size : length s ≡ sheetBytes y
   mark-1 : getD s 0 0 ≡ 65
   mark-2 : getD s 1 0 ≡ 77
   mark-3 : getD s 2 0 ≡ 68
@@ -128,13 +124,10 @@ or-left s t e = or-off s t e .0
 or-right : (s t : Bool) → (s || t) ≡ false → t ≡ false
 or-right s t e = or-off s t e .1
 
--- a sheet that is opened passed them all
-opened-unbroken : (y : Layout) (s : List ℕ) (k : ℕ) → opened y s ≡ passed k → Unbroken y s × (countIn s ≡ k)
-unfolding opened broken allZero
-opened-unbroken y s k e =
-    let o = else-passed (broken y s) (answer 40 0 0 0) (passed (countIn s)) k e in
-    let t = o .0 in
-    (search (or-left, or-right, not-false, eqb-true, ltb-false) depth 10, cc (o .1))
+-- a sheet that is not broken passed them all
+pub unbroken : (y : Layout) (s : List ℕ) → broken y s ≡ false → Unbroken y s
+unfolding broken allZero
+unbroken y s e = search (or-left, or-right, not-false, eqb-true, ltb-false) depth 10
 
 -- and one that passes them all is opened
 unbroken-opened : (y : Layout) (s : List ℕ) → Unbroken y s → opened y s ≡ passed (countIn s)
@@ -163,9 +156,9 @@ sheet-unbroken y es h =
       mark-1 = refl;
       mark-2 = refl;
       mark-3 = refl;
-      version-is = version-with v n ws;
-      most = rw (count-with v n ws) (h .most);
       zero-byte = refl;
+      version-is = omega arith;
+      most = rw (count-with v n ws) (h .most);
       past = rw (count-with v n ws, numbers-with v n ws, drop-at (joined es) (replicate past 0) (n * y .words) (length-joined y es (h .each))) (zeros-pass past ∙ sym (length-replicate past 0));
     }
 
@@ -198,7 +191,7 @@ with-parts y s b h =
     rw (← (h .version-is), v₁, v₂, c₁, c₂, t)
     (cc (d 0 (omega arith), d 1 (omega arith), d 2 (omega arith), d 3 (omega arith), d 4 (omega arith), d 5 (omega arith), d 6 (omega arith), d 7 (omega arith), h .mark-1, h .mark-2, h .mark-3, h .zero-byte))
 
--- numbers that are zero past so many entries are the numbers of those entries
+-- numbers that are zero past the first n entries are the numbers of those entries
 numbers-entries : (y : Layout) (n : ℕ) (ws : List ℕ) → n ≤ y .limit → length ws ≡ y .limit * y .words → passing isZero (drop (n * y .words) ws) ≡ length (drop (n * y .words) ws)
     → ws ≡ numbersOf y (entries (y .words) n ws)
 numbers-entries y n ws most size none =
@@ -208,10 +201,11 @@ numbers-entries y n ws most size none =
 
 -- a sheet that is opened is the sheet of its entries
 pub sheet-opened : (y : Layout) (s : List ℕ) (k : ℕ) → Below 256 s → opened y s ≡ passed k → IsSheet y s (entriesOf y s) × (length (entriesOf y s) ≡ k)
-unfolding entriesOf sheetOf
+unfolding entriesOf sheetOf opened
 sheet-opened y s k b e =
-    let p = opened-unbroken y s k e in
-    let h = p .0 in
+    let o = else-passed (broken y s) (answer 40 0 0 0) (passed (countIn s)) k e in
+    let h = unbroken y s (o .0) in
+    let c : countIn s ≡ k = cc (o .1) in
     let ws = numbersIn s in
     let size : length ws ≡ y .limit * y .words = omega (arith, length-wordsOf (drop 8 s), length-drop 8 s, h .size) in
     let n = length-entries (y .words) (countIn s) ws in (
@@ -220,5 +214,5 @@ sheet-opened y s k b e =
         each = entries-each y (countIn s) ws (omega (arith, mul-le-mul-right (y .words) (h .most))) (words-below (drop 8 s) (all-drop (λ x. x < 256) 8 s b));
         most = rw n (h .most);
       },
-      n ∙ p .1,
+      n ∙ c,
     )
