@@ -1,20 +1,22 @@
 -- Record n of an accepted block: where it stands, and its words.
 use mathlib.Core.Path.{_≡_, refl, sym, ap, _∙_}
-use mathlib.Core.Bool.{Bool, true, false}
+use mathlib.Core.Bool.{Bool, true, false, not}
 use mathlib.Core.List.{List, [], _∷_, _++_}
 use Prim.Native.Nat.{ℕ, zero, suc, _+_, _-_, _*_, _≤_, _<_}
 use native.Mathlib.Nat.{add-zero}
 use native.Mathlib.Omega.{arith}
-use borrow.Author.Tests.{lt-ltb, le-ltb}
+use borrow.Author.Tests.{not-false, lt-ltb, le-ltb, eq-eqb, ne-eqb}
 use lib.Dec.{eqb·suc-zero, leb·suc-suc}
-use lib.ListN.{length, take, drop, length-append}
+use lib.ListN.{length, getD, take, drop, length-append}
 use lib.Seq.{slice, split-at}
 use Rattle.units.specs.Choice.{if_then_else_}
-use Rattle.units.specs.Answers.{answer, refused}
+use Rattle.units.specs.Answers.{answer, passed, refused}
 use Rattle.units.specs.declared.Words.{Words}
 use Rattle.words.specs.Words.{wordsOf, joined, Below}
 use Rattle.words.proofs.Laws.{words-slice}
 use Rattle.record.specs.Rules.{RecordOk}
+use Rattle.record.specs.Values.{isValue}
+use Rattle.record.proofs.Values.{ValueAt, value-at}
 use Rattle.block.specs.Steps.{recordAt, findOf, placed}
 use Rattle.block.specs.Judging.{Accepted}
 use Rattle.block.specs.Records.{recordsOf}
@@ -90,13 +92,34 @@ unfolding valuePlace
 no-record b e v p bytes accepted q f = rw (found-none b bytes accepted (recordNumber e) p q f)
 
 -- or the place is in its part of the block
-module _ (b part : List ℕ) (e : Entry) {place size : Words} (l : Located b (recordNumber e) place size) (q : part ≡ slice (place .0 * 2) ((place .0 + size .0) * 2) b) where
-  part-is : wordsOf part ≡ recordIn (recordsOf b) (recordNumber e)
+module _ (b part : List ℕ) {n : ℕ} {place size : Words} (l : Located b n place size) (q : part ≡ slice (place .0 * 2) ((place .0 + size .0) * 2) b) where
+  part-is : wordsOf part ≡ recordIn (recordsOf b) n
   part-is = ap wordsOf q ∙ words-slice (place .0) (place .0 + size .0) b ∙ l .words
 
   pub part-ok : RecordOk (wordsOf part)
   part-ok = rw part-is (l .ok)
 
-  pub part-value : (v : ℕ) → valueIn (wordsOf part) (place .0) (wordNumber e) v ≡ valuePlace (recordsOf b) e v
+  pub part-value : (e : Entry) → recordNumber e ≡ n → (v : ℕ) → valueIn (wordsOf part) (place .0) (wordNumber e) v ≡ valuePlace (recordsOf b) e v
   unfolding valuePlace
-  part-value v = rw (l .there, ← (l .here), part-is)
+  part-value e m v = rw (m, l .there, ← (l .here), part-is)
+
+-- ---- the value in it
+
+-- what the code has found of word w: its number m, whether it is a value, and x, which stands there
+module _ (r : List ℕ) (at w v : ℕ) (m : Words) (e : m .0 ≡ w) (t : Bool) (q : t ≡ isValue r (m .0)) where
+  its-test : isValue r w ≡ t
+  its-test = cc
+
+  pub value-none : not t ≡ true → refused (answer 42 0 0 0) ≡ valueIn r at w v
+  value-none f = rw (its-test, f)
+
+  module _ (f : not t ≡ false) where
+    pub value-there : RecordOk r → ValueAt r w
+    value-there ok = value-at r w ok (its-test ∙ not-false t f)
+
+    module _ (x : ℕ) (g : x ≡ getD r (m .0 - 1) 0) where
+      pub value-differs : (v ≡ x → ⊥) → refused (answer 43 x 0 0) ≡ valueIn r at w v
+      value-differs n = rw (its-test, f, ← e, ← g, ne-eqb v x n)
+
+      pub value-stands : v ≡ x → passed (at + (m .0 - 1)) ≡ valueIn r at w v
+      value-stands n = rw (its-test, f, ← e, ← g, eq-eqb v x n)

@@ -79,11 +79,11 @@ module _ (b : List ℕ) (rs : List (List ℕ)) (g : IsBlock b rs) (e : Entry) (v
   checksum-place = omega (arith, ap length (words-are b rs g), frame-of (joined rs) .size)
 
   -- it stands before the checksum
-  pub value-within : at + 1 < length (wordsOf b)
+  value-within : at + 1 < length (wordsOf b)
   value-within = omega (arith, h .place, checksum-place, within)
 
   -- a value put there, and the checksum patched: the block of the records with this value
-  pub value-put : (new : ℕ) → patched b at v new ≡ blockOf (withValue rs e new)
+  value-put : (new : ℕ) → patched b at v new ≡ blockOf (withValue rs e new)
   unfolding withValue
   value-put new =
       let i = recordNumber e - 1 in

@@ -1,12 +1,12 @@
 -- What the code reads and stores in a sheet's bytes, over plain lists.
 use mathlib.Core.Path.{_≡_, sym, ap, _∙_}
-use mathlib.Core.Bool.{Bool, false, not}
+use mathlib.Core.Bool.{Bool, true, false, not, _||_}
 use mathlib.Core.List.{List, [], _∷_, _++_, append-nil}
 use Prim.Native.Nat.{ℕ, suc, _+_, _-_, _*_, _≤_, _<_}
 use native.Mathlib.Numerals.{add-one}
 use native.Mathlib.Omega.{arith}
 use borrow.Author.Tests.{eq-eqb, ne-eqb}
-use lib.Dec.{eqb}
+use lib.Dec.{eqb, ltb}
 use lib.ListN.{length, getD, take, drop, set, replicate, length-drop, length-replicate, drop-of-length-le, replicate-append-replicate}
 use lib.Seq.{sets, slice, take-all, drop-drop, drop-length, drop-cons, set-at, append-snoc}
 use Rattle.units.specs.Units.{bytesOfWords}
@@ -17,7 +17,7 @@ use Rattle.words.specs.Outcomes.{leaves}
 use Rattle.words.proofs.Laws.{length-wordsOf, words-slice, zero-bytes}
 use Rattle.record.specs.Judging.{passing, isZero, wordWithin}
 use Rattle.record.proofs.Scan.{scan-same, zero-within}
-use Rattle.sheet.specs.Sheets.{Layout, version1, sheetBytes, sheetWith, sheetOf, numberAt, numbersIn, entriesOf, allZero, broken, started}
+use Rattle.sheet.specs.Sheets.{Layout, version1, sheetBytes, sheetWith, sheetOf, numberAt, countIn, numbersIn, entriesOf, allZero, wrongMark, broken, started}
 use Rattle.sheet.specs.Rules.{KeepsLayout, Holds}
 use Rattle.sheet.proofs.Sheets.{unbroken, length-sheet}
 use Rattle.sheet.proofs.Entries.{entry-words}
@@ -47,6 +47,18 @@ module _ (s part : List ℕ) (count : ℕ) (from upto : Words) (size : length s 
   pub past-tested : (k n : Words) → k .0 ≡ passing (wordWithin 0 0) (wordsOf part) → n .0 ≡ length (wordsOf part) → not (eqb (k .0) (n .0)) ≡ not (allZero (drop (count * 4) (numbersIn s)))
   unfolding allZero
   past-tested k n a b = rw (a, b, scan-same (wordWithin 0 0) isZero zero-within (wordsOf part), past-words)
+
+-- ---- the tests of a sheet
+
+module _ (s : List ℕ) where
+  pub wrong-size : (length s ≡ 520 → ⊥) → true ≡ broken version1 s
+  unfolding broken
+  wrong-size n = simp (ne-eqb (length s) 520 n)
+
+  pub other-tests : (mark past : Bool) (version count : ℕ) → length s ≡ 520 → mark ≡ wrongMark s → version ≡ numberAt s 3 → count ≡ countIn s → past ≡ not (allZero (drop (count * 4) (numbersIn s)))
+      → (mark || (not (eqb version 1) || (ltb 64 count || (not (eqb (getD s 7 0) 0) || past)))) ≡ broken version1 s
+  unfolding broken
+  other-tests mark past version count h m v c p = rw (eq-eqb (length s) 520 h, m, v, p, c)
 
 -- a sheet that is not broken has its size
 pub unbroken-size : (y : Layout) (s : List ℕ) (t : Bool) → t ≡ broken y s → t ≡ false → length s ≡ sheetBytes y
@@ -80,12 +92,12 @@ module _ (s : List ℕ) where
 -- ---- the numbers of an entry
 
 -- one more of them is put
-pub number-put : (l l′ ns : List ℕ) (at k : ℕ) → k < length ns → l′ ≡ sets l (bytesOfWords (at + k)) (bytesOf (getD ns k 0 ∷ []))
-    → sets l′ (bytesOfWords (at + (k + 1))) (bytesOf (drop (k + 1) ns)) ≡ sets l (bytesOfWords (at + k)) (bytesOf (drop k ns))
+pub number-put : (t l l′ ns : List ℕ) (at k : ℕ) → k < length ns → l′ ≡ sets l (bytesOfWords (at + k)) (bytesOf (getD ns k 0 ∷ [])) → sets l (bytesOfWords (at + k)) (bytesOf (drop k ns)) ≡ t
+    → sets l′ (bytesOfWords (at + (k + 1))) (bytesOf (drop (k + 1) ns)) ≡ t
 unfolding bytesOf
-number-put l l′ ns at k h e =
+number-put t l l′ ns at k h e q =
     let p : (at + (k + 1)) * 2 ≡ suc (suc ((at + k) * 2)) = omega arith in
-    rw (e, p, add-one, drop-cons ns k 0 h)
+    rw (e, p, add-one) (rw (drop-cons ns k 0 h) at q)
 
 -- and then all are
 pub numbers-put : (s l ns : List ℕ) (i k : ℕ) (at : Words) → length ns ≤ k → at .0 ≡ 4 + i * 4 → sets l (bytesOfWords (at .0 + k)) (bytesOf (drop k ns)) ≡ sets s (bytesOfWords (at .0)) (bytesOf ns)

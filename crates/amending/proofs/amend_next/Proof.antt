@@ -8,13 +8,8 @@ amend-next-spec =
     tie.close
     (tie.spec
     (λ c. search (amend-full, needs))
-    (λ c κs. search needs)
-    (λ c. c .match .keys1)
-    (λ c. c .match .keys2)
-    (λ c κs. search needs)
-    (λ c. search needs)
-    (λ c. search needs)
+    (λ c κs. search needs) (λ c. c .match .keys1) (λ c. c .match .keys2) (λ c κs. search needs)
+    (λ c. search needs) (λ c. search needs)
     (λ c. search (amend-refused, needs))
-    (λ c. search needs)
-    (λ c. search needs)
+    (λ c. search needs) (λ c. search needs)
     (λ c. search (amend-done, needs)))

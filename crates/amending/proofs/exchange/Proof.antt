@@ -7,9 +7,7 @@ pub exchange-spec : {M : Type 1} → statement M
 exchange-spec =
     tie.close
     (tie.spec
-    (λ c κs. search needs)
-    (λ c. c .match .keys1)
-    (λ c. c .match .keys2)
+    (λ c κs. search needs) (λ c. c .match .keys1) (λ c. c .match .keys2)
     (λ c κs. search spot-within)
     (λ c. search needs)
     (λ c. search exchange-refused)

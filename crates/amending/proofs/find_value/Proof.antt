@@ -1,8 +1,7 @@
 use denote.Ref.{now}
-use mathlib.Core.Path.{_∙_}
+use mathlib.Core.Path.{refl, _∙_}
 use native.Mathlib.Omega.{arith}
 use borrow.Author.Needs.{needs}
-use Rattle.sheet.specs.Cases.{entryOf}
 use Rattle.amending.proofs.Located.{Located, located, no-record, part-ok, part-value}
 use Rattle.amending.proofs.find_value.Statement.{statement}
 use Rattle.amending.proofs.find_value.Tie as tie
@@ -14,11 +13,9 @@ pub find-value-spec : {M : Type 1} → statement M
 find-value-spec =
     tie.close
     (tie.spec
-    (λ c κs. tt)
-    (λ c. c .match .keys1)
-    (λ c. c .match .keys2)
+    (λ c κs. tt) (λ c. c .match .keys1) (λ c. c .match .keys2)
     (λ c. omega (arith, it c))
     (λ c κs. omega (arith, it c))
-    (λ c κs. (part-ok _ _ (entryOf (c .before .before .before .before .before .before .args .e)) (it (c .before)) (c .part .ensures), omega (arith, it (c .before))))
+    (λ c κs. (part-ok _ _ (it (c .before)) (c .part .ensures), omega (arith, it (c .before))))
     (λ c. search (no-record, needs))
-    (λ c. c .value-in .ensures ∙ part-value _ _ _ (it (c .before .before)) (c .before .part .ensures) _))
+    (λ c. c .value-in .ensures ∙ part-value _ _ (it (c .before .before)) (c .before .part .ensures) _ refl _))

@@ -8,15 +8,8 @@ undo-last-spec =
     tie.close
     (tie.spec
     (λ c. search undo-none)
-    (λ c. search needs)
-    (λ c κs. search needs)
-    (λ c κs. search needs)
-    (λ c. c .match .keys1)
-    (λ c. c .match .keys2)
-    (λ c κs. search needs)
-    (λ c. search needs)
-    (λ c. search needs)
+    (λ c. search needs) (λ c κs. search needs) (λ c κs. search needs) (λ c. c .match .keys1)
+    (λ c. c .match .keys2) (λ c κs. search needs) (λ c. search needs) (λ c. search needs)
     (λ c. search undo-refused)
-    (λ c. search needs)
-    (λ c. search needs)
+    (λ c. search needs) (λ c. search needs)
     (λ c. search undo-done))

@@ -20,8 +20,7 @@ clear-spec =
     Inv-loop
     μ-loop
     (λ c. (omega arith, refl, refl))
-    (λ c. omega arith)
-    (λ c. omega arith)
+    (λ c. omega arith) (λ c. omega arith)
     (λ c. simp length-set (omega arith))
     (λ c. let l = c .before .loop in (omega arith, length-set (l .sheet) (l .i) 0 ∙ l .inv .1, cleared-on (c .before .before .args .sheet .now) (l .sheet) (l .i) (l .inv .2) (omega arith)))
     (λ c. c .before .loop .inv .1)

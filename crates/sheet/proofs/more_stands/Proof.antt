@@ -10,9 +10,7 @@ more-stands-spec =
     tie.close
     (tie.spec
     (λ c. search past-none)
-    (λ c κs. tt)
-    (λ c κs. tt)
+    (λ c κs. tt) (λ c κs. tt)
     (λ c κs. omega (arith, length-wordsOf (now (c .before .before .before .before .args .sheet))))
-    (λ c κs. tt)
-    (λ c κs. tt)
+    (λ c κs. tt) (λ c κs. tt)
     (λ c. search past-tested))
