@@ -86,17 +86,17 @@ module _ {y : Layout} {b s : List ℕ} {count : ℕ} (h : Ready y b s count) whe
     amend-full full = refuses (amendable y e) (simp (le-leb (y .limit) (length (entriesOf y s)) (omega (arith, h .holds .count-is))))
 
     -- once the values are exchanged or not
-    module _ (room : count < y .limit) {b′ : List ℕ} (spot : Spot) (x : Exchanged b e (oldValue e) (newValue e) (spotOf spot) b′) where
+    module _ (room : count < y .limit) {new : ℕ} {b′ : List ℕ} (spot : Spot) (x : Exchanged b e (oldValue e) new (spotOf spot) b′) where
       amend-is : amendable y e (both (recordsOf b) (entriesOf y s)) ≡ onward (spotOf spot) (λ _. passed (both (withValue (recordsOf b) e (newValue e)) (entriesOf y s ++ e ∷ [])))
       amend-is = rw (x .place) (amend-places y e (recordsOf b) (entriesOf y s) (omega (arith, h .holds .count-is)))
 
       pub amend-refused : (r : Refusal) → spot ≡ Refused r → buffers (refusalOf r) b′ s ≡ amend y e b s
       amend-refused r q = rw (x .left, q) (refuses (amendable y e) (rw q at amend-is))
 
-      pub amend-done : (at : Words) {s′ : List ℕ} → spot ≡ Value at → s′ ≡ sheetOf y (entriesOf y s ++ e ∷ []) → buffers (answer 0 (count + 1) 0 0) b′ s′ ≡ amend y e b s
-      amend-done at q f =
+      pub amend-done : new ≡ newValue e → (at : Words) {s′ : List ℕ} → spot ≡ Value at → s′ ≡ sheetOf y (entriesOf y s ++ e ∷ []) → buffers (answer 0 (count + 1) 0 0) b′ s′ ≡ amend y e b s
+      amend-done v at q f =
           let n : count + 1 ≡ length (entriesOf y s ++ e ∷ []) = omega (arith, h .holds .count-is, length-append (entriesOf y s) (e ∷ [])) in
-          rw (x .left, q, f, n) (passes (amendable y e) _ _ (rw q at amend-is))
+          rw (x .left, q, v, f, n) (passes (amendable y e) _ _ (rw q at amend-is))
 
   -- ---- undo
 
@@ -104,20 +104,20 @@ module _ {y : Layout} {b s : List ℕ} {count : ℕ} (h : Ready y b s count) whe
   undo-none z = refuses undoable (undo-empty (recordsOf b) (entriesOf y s) (omega (arith, h .holds .count-is)))
 
   -- once the values are exchanged back or not
-  module _ (n : count ≡ 0 → ⊥) (e : Entry) (its : e ≡ getD (entriesOf y s) (count - 1) []) (spot : Spot) {b′ : List ℕ} (x : Exchanged b e (newValue e) (oldValue e) (spotOf spot) b′) where
+  module _ (n : count ≡ 0 → ⊥) (e : Entry) (is-last : e ≡ getD (entriesOf y s) (count - 1) []) (spot : Spot) {back : ℕ} {b′ : List ℕ} (x : Exchanged b e (newValue e) back (spotOf spot) b′) where
     some : 1 ≤ length (entriesOf y s)
     some = omega (arith, h .holds .count-is)
 
     last : lastOf (entriesOf y s) ≡ e
-    last = rw (← (h .holds .count-is)) (sym its)
+    last = rw (← (h .holds .count-is)) (sym is-last)
 
     pub undo-refused : (r : Refusal) → spot ≡ Refused r → buffers (answer 46 0 0 0) b′ s ≡ undo y b s
     undo-refused r q = rw (x .left, q) (refuses undoable (undo-no-place (recordsOf b) (entriesOf y s) some e last (sym (x .place) ∙ ap spotOf q)))
 
-    pub undo-done : (at : Words) {s′ : List ℕ} → spot ≡ Value at → s′ ≡ sheetOf y (take (count - 1) (entriesOf y s)) → buffers (answer 0 (count - 1) 0 0) b′ s′ ≡ undo y b s
-    undo-done at q f =
+    pub undo-done : back ≡ oldValue e → (at : Words) {s′ : List ℕ} → spot ≡ Value at → s′ ≡ sheetOf y (take (count - 1) (entriesOf y s)) → buffers (answer 0 (count - 1) 0 0) b′ s′ ≡ undo y b s
+    undo-done v at q f =
         let es = entriesOf y s in
-        let v = names-value (recordsOf b) e (newValue e) (at .0) (sym (x .place) ∙ ap spotOf q) in
+        let its = names-value (recordsOf b) e (newValue e) (at .0) (sym (x .place) ∙ ap spotOf q) in
         let l : length es - 1 ≡ count - 1 = omega (arith, h .holds .count-is) in
         let k : count - 1 ≡ length (take (count - 1) es) = sym (length-take-le (count - 1) es (omega (arith, h .holds .count-is))) in
-        rw (k, x .left, q, f) (passes undoable _ _ (rw (last, l) at (undo-standing (recordsOf b) es some (rw last (it-stands (recordsOf b) e (v .named) (v .stands))))))
+        rw (k, x .left, q, v, f) (passes undoable _ _ (rw (last, l) at (undo-standing (recordsOf b) es some (rw last (it-stands (recordsOf b) e (its .named) (its .stands))))))

@@ -37,7 +37,7 @@ sheetWith version count numbers = 65 ∷ 77 ∷ 68 ∷ bytesOf (version ∷ coun
 unfoldable pub sheetOf : Layout → List Entry → List ℕ
 sheetOf y es = sheetWith (y .version) (length es) (joined es ++ replicate ((y .limit - length es) * y .words) 0)
 
--- a 16-bit number behind so many bytes
+-- the 16-bit number behind i bytes
 abbrev pub numberAt : List ℕ → ℕ → ℕ
 numberAt s i = getD s i 0 * 256 + getD s (i + 1) 0
 
@@ -49,7 +49,7 @@ countIn s = numberAt s 5
 abbrev pub numbersIn : List ℕ → List ℕ
 numbersIn s = wordsOf (drop 8 s)
 
--- the first so many entries, of so many words each
+-- the first n entries, of `size` words each
 unfoldable pub entries : ℕ → ℕ → List ℕ → List Entry
 entries size zero ws = []
 entries size (suc n) ws = take size ws ∷ entries size n (drop size ws)

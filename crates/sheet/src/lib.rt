@@ -80,7 +80,7 @@ fn more_stands(sheet: &[u8], count: u16) -> bool
     clear != all
 }
 
-// The sheet does not keep its layout.
+// The sheet does not keep its layout. Its tests are flags, with no early exit, so that the proof has no cases.
 fn is_broken(sheet: &[u8]) -> bool
     ensures { λ r. ⌜ r ≡ broken version1 (now (sheet .entry)) ⌝ }
 {

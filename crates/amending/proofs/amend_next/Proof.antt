@@ -7,9 +7,9 @@ pub amend-next-spec : {M : Type 1} → statement M
 amend-next-spec =
     tie.close
     (tie.spec
-    (λ c. search (amend-full, needs))
+    (λ c. search amend-full)
     (λ c κs. search needs) (λ c. c .match .keys1) (λ c. c .match .keys2) (λ c κs. search needs)
     (λ c. search needs) (λ c. search needs)
-    (λ c. search (amend-refused, needs))
+    (λ c. search amend-refused)
     (λ c. search needs) (λ c. search needs)
-    (λ c. search (amend-done, needs)))
+    (λ c. search amend-done))

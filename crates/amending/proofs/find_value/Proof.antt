@@ -1,7 +1,6 @@
 use denote.Ref.{now}
 use mathlib.Core.Path.{refl, _∙_}
 use native.Mathlib.Omega.{arith}
-use borrow.Author.Needs.{needs}
 use Rattle.amending.proofs.Located.{Located, located, no-record, part-ok, part-value}
 use Rattle.amending.proofs.find_value.Statement.{statement}
 use Rattle.amending.proofs.find_value.Tie as tie
@@ -17,5 +16,5 @@ find-value-spec =
     (λ c. omega (arith, it c))
     (λ c κs. omega (arith, it c))
     (λ c κs. (part-ok _ _ (it (c .before)) (c .part .ensures), omega (arith, it (c .before))))
-    (λ c. search (no-record, needs))
+    (λ c. search no-record)
     (λ c. c .value-in .ensures ∙ part-value _ _ (it (c .before .before)) (c .before .part .ensures) _ refl _))
