@@ -1,120 +1,125 @@
--- Record n of a block: where it stands, and its words.
-use mathlib.Core.Path.{_≡_, refl, ap}
-use mathlib.Core.Bool.{Bool, true, false, not, _||_}
-use mathlib.Core.Logic.{_⊎_, inl, inr}
-use mathlib.Core.List.{List, [], _∷_}
-use Prim.Native.Nat.{ℕ, zero, suc, _+_, _-_, _≤_, _<_}
+-- Record n of an accepted block: where it stands, and its words.
+use mathlib.Core.Path.{_≡_, refl, sym, ap, _∙_}
+use mathlib.Core.Bool.{Bool, true, false, not}
+use mathlib.Core.List.{List, [], _∷_, _++_}
+use Prim.Native.Nat.{ℕ, zero, suc, _+_, _-_, _*_, _≤_, _<_}
+use native.Mathlib.Nat.{add-zero}
 use native.Mathlib.Omega.{arith}
-use borrow.Author.Tests.{eq-eqb, ne-eqb, lt-ltb}
-use lib.Dec.{eqb, ltb}
-use lib.ListN.{length, take, drop, length-append}
+use borrow.Author.Tests.{not-false, lt-ltb, le-ltb, eq-eqb, ne-eqb}
+use lib.Dec.{eqb·suc-zero, leb·suc-suc}
+use lib.ListN.{length, getD, take, drop, length-append}
 use lib.Seq.{slice, split-at}
 use Rattle.units.specs.Choice.{if_then_else_}
 use Rattle.units.specs.Answers.{answer, passed, refused}
 use Rattle.units.specs.declared.Words.{Words}
 use Rattle.words.specs.Words.{wordsOf, joined, Below}
+use Rattle.words.proofs.Laws.{words-slice}
+use Rattle.record.specs.Rules.{RecordOk}
 use Rattle.record.specs.Values.{isValue}
-use Rattle.block.specs.Steps.{placed}
-use Rattle.block.specs.Judging.{judged}
+use Rattle.record.proofs.Values.{ValueAt, value-at}
+use Rattle.block.specs.Steps.{recordAt, findOf, placed}
+use Rattle.block.specs.Judging.{Accepted}
 use Rattle.block.specs.Records.{recordsOf}
+use Rattle.block.specs.declared.Place.{Place}
 use Rattle.block.specs.declared.Place.the-variants.{Record, NoMore}
-use Rattle.block.proofs.Placed.{others-left, first-left}
-use Rattle.amending.specs.Places.{recordIn, noRecord, valuePlace}
-use Rattle.amending.proofs.Named.{record-is}
+use Rattle.block.proofs.Placed.{others-left, first-left, find-record}
+use Rattle.sheet.specs.Sheets.{Entry}
+use Rattle.amending.specs.Places.{recordNumber, wordNumber, recordIn, noRecord, valueIn, valuePlace}
+use Rattle.amending.proofs.Named.{is-record}
 
--- ---- which record is found
-
--- one more than the first is not the first
-next : (n : ℕ) → eqb (suc n) 0 ≡ false
-next n = ne-eqb (suc n) 0 (λ z. omega arith)
-
--- none: there are not so many
-placed-none : (rs : List (List ℕ)) (at n : ℕ) → placed rs at n ≡ NoMore → noRecord rs n ≡ true
-unfolding noRecord placed
-placed-none rs at n e = by (too-far rs at n e)
-  where
-    or-true : (t : Bool) → (t || true) ≡ true
-    or-true true = refl
-    or-true false = refl
-
-    too-far : (rs : List (List ℕ)) (at n : ℕ) → placed rs at n ≡ NoMore → (n ≡ 0) ⊎ (length rs < n)
-    too-far rs at zero e = inl refl
-    too-far [] at (suc n) e = inr (omega arith)
-    too-far (r ∷ rs) at (suc zero) e = let z : _≡_ {A = ℕ} 0 1 = cc in absurd (omega arith)
-    too-far (r ∷ rs) at (suc (suc n)) e = more (too-far rs (at + length r) (suc n) (rw (next n) at e))
-      where
-        more : (suc n ≡ 0) ⊎ (length rs < suc n) → (suc (suc n) ≡ 0) ⊎ (suc (length rs) < suc (suc n))
-        more (inl z) = absurd (omega arith)
-        more (inr h) = inr (omega arith)
-
-    by : (n ≡ 0) ⊎ (length rs < n) → (eqb n 0 || ltb (length rs) n) ≡ true
-    by (inl z) = simp (eq-eqb n 0 z)
-    by (inr h) = rw (lt-ltb (length rs) n h) (or-true (eqb n 0))
-
--- or this one, behind the others
-record Placed (rs : List (List ℕ)) (at n place size : ℕ) : Type 0 where
-  least : 1 ≤ n
-  most : n ≤ length rs
-  here : place ≡ at + length (joined (take (n - 1) rs))
-  size-is : size ≡ length (recordIn rs n)
-
-placed-some : (rs : List (List ℕ)) (at n : ℕ) (place size : Words) → placed rs at n ≡ Record place size → Placed rs at n (place .0) (size .0)
-unfolding placed joined
-placed-some [] at n place size e = let z : _≡_ {A = ℕ} 0 1 = cc in absurd (omega arith)
-placed-some (r ∷ rs) at zero place size e = let z : _≡_ {A = ℕ} 0 1 = cc in absurd (omega arith)
-placed-some (r ∷ rs) at (suc zero) place size e =
-    let p : place .0 ≡ at = cc in
-    let k : size .0 ≡ length r = cc in
-    record { least = omega arith; most = omega arith; here = omega arith; size-is = k }
-placed-some (r ∷ rs) at (suc (suc n)) place size e =
-    let h = placed-some rs (at + length r) (suc n) place size (rw (next n) at e) in
+-- of records that stand one after the other: none where there is no such number, or this one behind the others
+placed-is : (rs : List (List ℕ)) (at n : ℕ) → placed rs at n ≡ (if noRecord rs n then NoMore else recordAt (at + length (joined (take (n - 1) rs))) (length (recordIn rs n)))
+unfolding placed noRecord joined
+placed-is [] at zero = refl
+placed-is [] at (suc n) = simp (eqb·suc-zero n, lt-ltb 0 (suc n) (omega arith))
+placed-is (r ∷ rs) at zero = refl
+placed-is (r ∷ rs) at (suc zero) = simp (le-ltb (suc (length rs)) 1 (omega arith), add-zero)
+placed-is (r ∷ rs) at (suc (suc n)) =
     let i : suc (suc n) - 1 ≡ suc n = omega arith in
     let k : suc n - 1 ≡ n = omega arith in
-    let here = rw k at (h .here) in
-    record { least = omega arith; most = omega (arith, h .most); here = rw i (omega (arith, here, length-append r (joined (take n rs)))); size-is = rw i (rw k at (h .size-is)) }
+    let l : at + length (r ++ joined (take n rs)) ≡ at + length r + length (joined (take n rs)) = omega (arith, length-append r (joined (take n rs))) in
+    simp (eqb·suc-zero, leb·suc-suc, i, l) (simp (eqb·suc-zero, leb·suc-suc, k) at (placed-is rs (at + length r) (suc n)))
 
--- ---- where it stands
+-- where the search has found it
+pub record Located (b : List ℕ) (n : ℕ) (place size : Words) : Type 0 where
+  pub there : noRecord (recordsOf b) n ≡ false
+  pub here : place .0 ≡ 1 + length (joined (take (n - 1) (recordsOf b)))
+  pub words : slice (place .0) (place .0 + size .0) (wordsOf b) ≡ recordIn (recordsOf b) n
+  pub ok : RecordOk (recordIn (recordsOf b) n)
+  pub within : place .0 + size .0 < length (wordsOf b)
+  pub most : length (wordsOf b) ≤ 8000
 
-pub record Located (b : List ℕ) (rs : List (List ℕ)) (n place size : ℕ) : Type 0 where
-  pub there : noRecord rs n ≡ false
-  pub here : place ≡ 1 + length (joined (take (n - 1) rs))
-  pub words : slice place (place + size) (wordsOf b) ≡ recordIn rs n
-  pub long : 16 ≤ size
-  pub within : place + size < length (wordsOf b)
+module _ (b : List ℕ) (bytes : Below 256 b) (accepted : Accepted b) (n : ℕ) (p : Place) (q : p ≡ findOf (wordsOf b) 1 n) where
+  found-is : p ≡ (if noRecord (recordsOf b) n then NoMore else recordAt (1 + length (joined (take (n - 1) (recordsOf b)))) (length (recordIn (recordsOf b) n)))
+  found-is = q ∙ find-record b (accepted .count) bytes (accepted .is) n ∙ placed-is (recordsOf b) 1 n
 
-module _ (b : List ℕ) (k : ℕ) (bytes : Below 256 b) (accepted : judged b ≡ passed k) where
-  pub located : (n : ℕ) (place size : Words) → placed (recordsOf b) 1 n ≡ Record place size → Located b (recordsOf b) n (place .0) (size .0)
-  located n place size e =
-      let rs = recordsOf b in
-      let p = placed-some rs 1 n place size e in
-      let i = n - 1 in
-      let r = recordIn rs n in
-      let split = split-at rs i [] (omega (arith, p .least, p .most)) in
-      let f = first-left (others-left b k bytes accepted (take i rs) (r ∷ drop (suc i) rs) split) in
-      record {
-        there = record-is rs n (p .least) (p .most);
-        here = p .here;
-        words = rw (p .here, p .size-is) (f .words);
-        long = rw (p .size-is) (f .long);
-        within = rw (p .here, p .size-is) (f .within);
-      }
+  found-none : p ≡ NoMore → noRecord (recordsOf b) n ≡ true
+  found-none e = by (noRecord (recordsOf b) n) _ _ (sym e ∙ found-is)
+    where
+      by : (t : Bool) (at size : ℕ) → NoMore ≡ (if t then NoMore else recordAt at size) → t ≡ true
+      by true at size f = refl
+      by false at size f = cc
 
--- ---- the place of a value
+  pub located : (place size : Words) → p ≡ Record place size → Located b n place size
+  located place size e = by (noRecord (recordsOf b) n) refl (sym e ∙ found-is)
+    where
+      before : List (List ℕ)
+      before = take (n - 1) (recordsOf b)
 
--- there is no such record
-pub place-none : (rs : List (List ℕ)) (n w : ℕ) → placed rs 1 n ≡ NoMore → valuePlace rs n w ≡ refused (answer 41 0 0 0)
+      by : (t : Bool) → noRecord (recordsOf b) n ≡ t → Record place size ≡ (if t then NoMore else recordAt (1 + length (joined before)) (length (recordIn (recordsOf b) n))) → Located b n place size
+      by true none f = let z : _≡_ {A = ℕ} 0 1 = cc in absurd (omega arith)
+      by false some f =
+          let r = recordIn (recordsOf b) n in
+          let after = drop (suc (n - 1)) (recordsOf b) in
+          let k = accepted .count in
+          let split = split-at (recordsOf b) (n - 1) [] (omega (arith, is-record (recordsOf b) n some)) in
+          let left = others-left b k bytes (accepted .is) before (r ∷ after) split in
+          let first = first-left left in
+          let here : place .0 ≡ 1 + length (joined before) = cc in
+          let long : size .0 ≡ length r = cc in
+          record {
+            there = some;
+            here = here;
+            words = rw (here, long) (first .words);
+            ok = first .ok;
+            within = omega (arith, here, long, first .within);
+            most = left .most;
+          }
+
+-- there is no such record, and no place
+pub no-record : (b : List ℕ) (e : Entry) (v : ℕ) (p : Place) → Below 256 b → Accepted b → p ≡ findOf (wordsOf b) 1 (recordNumber e) → p ≡ NoMore → refused (answer 41 0 0 0) ≡ valuePlace (recordsOf b) e v
 unfolding valuePlace
-place-none rs n w e = simp (placed-none rs 1 n e)
+no-record b e v p bytes accepted q f = rw (found-none b bytes accepted (recordNumber e) p q f)
 
--- or the place is in it
-pub place-in : {b : List ℕ} {rs : List (List ℕ)} {n place size : ℕ} → Located b rs n place size → (w : ℕ)
-    → valuePlace rs n w ≡ (if isValue (slice place (place + size) (wordsOf b)) w then passed (place + w - 1) else refused (answer 42 0 0 0))
-unfolding valuePlace
-place-in {b} {rs} {n} {place} {size} l w = rw (l .there, l .words) (by (isValue (recordIn rs n) w))
-  where
-    k : length (joined (take (n - 1) rs)) + w ≡ place + w - 1
-    k = omega (arith, l .here)
+-- or the place is in its part of the block
+module _ (b part : List ℕ) {n : ℕ} {place size : Words} (l : Located b n place size) (q : part ≡ slice (place .0 * 2) ((place .0 + size .0) * 2) b) where
+  part-is : wordsOf part ≡ recordIn (recordsOf b) n
+  part-is = ap wordsOf q ∙ words-slice (place .0) (place .0 + size .0) b ∙ l .words
 
-    by : (t : Bool) → (if not t then refused (answer 42 0 0 0) else passed (length (joined (take (n - 1) rs)) + w)) ≡ (if t then passed (place + w - 1) else refused (answer 42 0 0 0))
-    by true = ap (λ m. passed m) k
-    by false = refl
+  pub part-ok : RecordOk (wordsOf part)
+  part-ok = rw part-is (l .ok)
+
+  pub part-value : (e : Entry) → recordNumber e ≡ n → (v : ℕ) → valueIn (wordsOf part) (place .0) (wordNumber e) v ≡ valuePlace (recordsOf b) e v
+  unfolding valuePlace
+  part-value e m v = rw (m, l .there, ← (l .here), part-is)
+
+-- ---- the value in it
+
+-- what the code has found of word w: its number m, whether it is a value, and x, which stands there
+module _ (r : List ℕ) (at w v : ℕ) (m : Words) (e : m .0 ≡ w) (t : Bool) (q : t ≡ isValue r (m .0)) where
+  its-test : isValue r w ≡ t
+  its-test = cc
+
+  pub value-none : not t ≡ true → refused (answer 42 0 0 0) ≡ valueIn r at w v
+  value-none f = rw (its-test, f)
+
+  module _ (f : not t ≡ false) where
+    pub value-there : RecordOk r → ValueAt r w
+    value-there ok = value-at r w ok (its-test ∙ not-false t f)
+
+    module _ (x : ℕ) (g : x ≡ getD r (m .0 - 1) 0) where
+      pub value-differs : (v ≡ x → ⊥) → refused (answer 43 x 0 0) ≡ valueIn r at w v
+      value-differs n = rw (its-test, f, ← e, ← g, ne-eqb v x n)
+
+      pub value-stands : v ≡ x → passed (at + (m .0 - 1)) ≡ valueIn r at w v
+      value-stands n = rw (its-test, f, ← e, ← g, eq-eqb v x n)

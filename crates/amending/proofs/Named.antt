@@ -16,15 +16,10 @@ use Rattle.record.proofs.Values.{ValueAt, value-at}
 use Rattle.sheet.specs.Sheets.{Entry}
 use Rattle.amending.specs.Places.{recordNumber, wordNumber, recordIn, noRecord}
 
--- row 41 is not given exactly for the numbers of records
-module _ (rs : List (List ℕ)) (n : ℕ) where
-  pub is-record : noRecord rs n ≡ false → (1 ≤ n) × (n ≤ length rs)
-  unfolding noRecord
-  is-record e = let o = or-off (eqb n 0) (ltb (length rs) n) e in let z = eqb-false n 0 (o .0) in (omega (arith, z), ltb-false (length rs) n (o .1))
-
-  pub record-is : 1 ≤ n → n ≤ length rs → noRecord rs n ≡ false
-  unfolding noRecord
-  record-is h k = simp (ne-eqb n 0 (λ e. omega arith), le-ltb (length rs) n k)
+-- where row 41 is not given
+pub is-record : (rs : List (List ℕ)) (n : ℕ) → noRecord rs n ≡ false → (1 ≤ n) × (n ≤ length rs)
+unfolding noRecord
+is-record rs n e = let o = or-off (eqb n 0) (ltb (length rs) n) e in let z = eqb-false n 0 (o .0) in (omega (arith, z), ltb-false (length rs) n (o .1))
 
 pub record Named (rs : List (List ℕ)) (e : Entry) : Type 0 where
   pub least : 1 ≤ recordNumber e
@@ -34,7 +29,8 @@ pub record Named (rs : List (List ℕ)) (e : Entry) : Type 0 where
 module _ (rs : List (List ℕ)) (e : Entry) (p : Named rs e) where
   -- its record is there
   pub named-there : noRecord rs (recordNumber e) ≡ false
-  named-there = record-is rs (recordNumber e) (p .least) (p .most)
+  unfolding noRecord
+  named-there = simp (ne-eqb (recordNumber e) 0 (λ z. omega (arith, p .least)), le-ltb (length rs) (recordNumber e) (p .most))
 
   pub named-inside : recordNumber e - 1 < length rs
   named-inside = omega (arith, p .least, p .most)

@@ -1,97 +1,123 @@
 -- What amend and undo leave of a block and its sheet, from what the code has found and stored.
-use mathlib.Core.Path.{_≡_, refl, sym, ap, _∙_}
+use mathlib.Core.Path.{_≡_, sym, ap, _∙_}
 use mathlib.Core.List.{List, [], _∷_, _++_}
-use Prim.Native.Nat.{ℕ, _+_, _-_, _<_}
+use Prim.Native.Nat.{ℕ, _+_, _-_, _≤_, _<_}
 use native.Mathlib.Omega.{arith}
+use borrow.Author.Tests.{le-leb}
 use lib.ListN.{length, getD, take, length-append}
 use lib.Seq.{length-take-le}
 use Rattle.units.specs.declared.Answer.{Answer}
+use Rattle.units.specs.declared.Words.{Words}
 use Rattle.units.specs.Answers.{answer, Verdict, passed, refused, onward}
-use Rattle.words.specs.Words.{wordsOf, Below}
-use Rattle.block.specs.Judging.{judged, Accepted}
+use mir.Syntax.{w8}
+use mir.Val.{Fits}
+use Rattle.words.proofs.Laws.{all-below}
+use Rattle.block.specs.Cases as block
+use Rattle.block.specs.Cases.{judgedOf}
+use Rattle.block.specs.declared.Judged.{Judged}
+use Rattle.block.specs.declared.Judged.the-variants as judge
+use Rattle.block.specs.declared.Refusal as refusal
+use Rattle.block.specs.Judging.{judged}
 use Rattle.block.specs.Records.{recordsOf}
-use Rattle.block.specs.Rules.{IsBlock}
-use Rattle.block.proofs.Exact.{only-good}
+use Rattle.block.specs.Rules.{blockOf}
+use Rattle.sheet.specs.declared.Opened.{Opened}
+use Rattle.sheet.specs.declared.Opened.the-variants.{Standing, Broken}
+use Rattle.sheet.specs.Cases.{openedOf}
 use Rattle.sheet.specs.Sheets.{Layout, Entry, sheetOf, entriesOf, opened}
-use Rattle.units.proofs.Verdicts.{never-passed}
-use Rattle.sheet.specs.Rules.{KeepsLayout}
-use Rattle.sheet.proofs.Sheets.{sheet-opened}
-use Rattle.amending.specs.Places.{recordNumber, wordNumber, oldValue, newValue, found, valuePlace, patched}
-use Rattle.amending.specs.Amending.{Both, buffers, both, amendable, undoable, lastOf, leaving, doing, onBoth}
-use Rattle.amending.proofs.Patched.{NamesValue, names-value, value-within, value-found, value-put}
-use Rattle.amending.proofs.Steps.{amend-differs, amend-passes, undo-differs, undo-standing, it-stands}
+use Rattle.sheet.proofs.Sheets.{opened-sheet, sheet-opened}
+use Rattle.amending.specs.declared.Refusal.{Refusal}
+use Rattle.amending.specs.declared.Amended.{Amended}
+use Rattle.amending.specs.declared.Amended.the-variants as amended
+use Rattle.amending.specs.declared.Spot.{Spot}
+use Rattle.amending.specs.declared.Spot.the-variants.{Value, Refused}
+use Rattle.amending.specs.Cases.{refusalOf, amendedOf, spotOf}
+use Rattle.amending.specs.Places.{oldValue, newValue, withValue}
+use Rattle.amending.specs.Amending.{Both, buffers, both, amendable, undoable, lastOf, leaving, onBoth, amend, undo}
+use Rattle.amending.specs.Between.{Ready, Looked, Exchanged}
+use Rattle.amending.proofs.Patched.{names-value}
+use Rattle.amending.proofs.Steps.{amend-places, it-stands, undo-empty, undo-standing, undo-no-place}
 
--- a refusal leaves both buffers, whichever call gives it
-pub refusal-leaves : (y : Layout) (b s : List ℕ) (r : Answer) (v : Verdict Both) → v ≡ refused r → buffers r b s ≡ leaving y b s v
-refusal-leaves y b s r v e = rw e
+-- ---- the look at block and sheet
 
--- an entry e names the value behind so many words of an accepted block
-module _ (y : Layout) (b s : List ℕ) (bytes : Below 256 b) (accepted : Accepted b) (e : Entry) (at : ℕ) (h : valuePlace (recordsOf b) (recordNumber e) (wordNumber e) ≡ passed at) where
-  good : IsBlock b (recordsOf b)
-  good = only-good b (accepted .count) bytes (accepted .is) .0
+module _ (y : Layout) (b s : List ℕ) (j : Judged) (e : judgedOf j ≡ judged b) where
+  pub block-refused : (r : refusal.Refusal) → j ≡ judge.Refused r → Looked y b s (refused (block.refusalOf r))
+  unfolding Looked onBoth
+  block-refused r f = λ does. rw (sym e ∙ ap judgedOf f)
 
-  names : NamesValue (recordsOf b) e at
-  names = names-value (recordsOf b) e at h
+  module _ (k : ℕ) (f : j ≡ judge.Records k) (o : Opened) (g : openedOf o ≡ opened y s) where
+    pub sheet-refused : o ≡ Broken → Looked y b s (refused (answer 40 0 0 0))
+    unfolding Looked onBoth
+    sheet-refused h = λ does. rw (sym e ∙ ap judgedOf f, sym g ∙ ap openedOf h)
 
-  pub spot-within : at + 1 < length (wordsOf b)
-  spot-within = value-within b (recordsOf b) good e at names
+    pub both-ready : ((i : ℕ) → Fits w8 (getD b i 0)) → ((i : ℕ) → Fits w8 (getD s i 0)) → (count : ℕ) → o ≡ Standing count → Looked y b s (passed count)
+    unfolding Looked
+    both-ready bytes entries count h =
+        let p = sheet-opened y s count (all-below 256 s (λ i. entries i .fits)) (sym g ∙ ap openedOf h) in
+        record { bytes = all-below 256 b (λ i. bytes i .fits); accepted = record { count = k; is = sym e ∙ ap judgedOf f }; holds = record { layout = p .0; count-is = sym (p .1) } }
 
-  module _ (w : ℕ) (stands : w ≡ getD (wordsOf b) at 0) where
-    stands-found : w ≡ found (recordsOf b) e
-    stands-found = stands ∙ value-found b (recordsOf b) good e at names
+-- what it found, for the call
+module _ (y : Layout) (b s : List ℕ) (a : Amended) (l : Looked y b s (amendedOf a)) where
+  pub look-refused : (r : Refusal) → a ≡ amended.Refused r → (does : Both → Verdict Both) → buffers (refusalOf r) b s ≡ onBoth y does b s
+  unfolding Looked
+  look-refused r e = rw e at l
 
-    pub amend-other : (oldValue e ≡ w → ⊥) → length (entriesOf y s) < y .limit
-        → buffers (answer 43 w 0 0) b s ≡ doing y (amendable y e) b s
-    amend-other n room =
-        let q = amend-differs y e (recordsOf b) (entriesOf y s) room (names .named) (λ z. n (z ∙ sym stands-found)) in
-        refusal-leaves y b s (answer 43 w 0 0) _ (q ∙ ap (λ x. refused (answer 43 x 0 0)) (sym stands-found))
+  pub look-ready : (count : ℕ) → a ≡ amended.Standing count → Ready y b s count
+  unfolding Looked
+  look-ready count e = rw e at l
 
-    pub amend-done : {b′ s′ : List ℕ} (count : ℕ) → oldValue e ≡ w → count ≡ length (entriesOf y s) → count < y .limit
-        → b′ ≡ patched b at (oldValue e) (newValue e) → s′ ≡ sheetOf y (entriesOf y s ++ e ∷ [])
-        → buffers (answer 0 (count + 1) 0 0) b′ s′ ≡ doing y (amendable y e) b s
-    amend-done count o n room eb es =
-        let q : oldValue e ≡ found (recordsOf b) e = o ∙ stands-found in
-        let k : count + 1 ≡ length (entriesOf y s ++ e ∷ []) = omega (arith, n, length-append (entriesOf y s) (e ∷ [])) in
-        rw (amend-passes y e (recordsOf b) (entriesOf y s) (omega arith) (names .named) q, eb, es, q, value-put b (recordsOf b) good e at names (newValue e), k)
+-- all is ready: what the call does decides
+module _ {y : Layout} {b s : List ℕ} {count : ℕ} (h : Ready y b s count) where
+  goes-on : (does : Both → Verdict Both) → leaving y b s (does (both (recordsOf b) (entriesOf y s))) ≡ onBoth y does b s
+  unfolding onBoth
+  goes-on does = rw (h .accepted .is, opened-sheet y s (entriesOf y s) (h .holds .layout) .0)
 
-    module _ (last : lastOf (entriesOf y s) ≡ e) (left : ℕ) (n : left + 1 ≡ length (entriesOf y s)) where
-      pub undo-other : (newValue e ≡ w → ⊥) → buffers (answer 46 0 0 0) b s ≡ doing y undoable b s
-      undo-other d = refusal-leaves y b s (answer 46 0 0 0) _ (undo-differs (recordsOf b) (entriesOf y s) (omega arith) (rw last (names .named)) (rw last (λ z. d (z ∙ sym stands-found))))
+  refuses : (does : Both → Verdict Both) {r : Answer} → does (both (recordsOf b) (entriesOf y s)) ≡ refused r → buffers r b s ≡ onBoth y does b s
+  refuses does q = rw q at (goes-on does)
 
-      pub undo-done : {b′ s′ : List ℕ} → newValue e ≡ w → b′ ≡ patched b at (newValue e) (oldValue e) → s′ ≡ sheetOf y (take left (entriesOf y s))
-          → buffers (answer 0 left 0 0) b′ s′ ≡ doing y undoable b s
-      undo-done o eb es =
-          let q : newValue e ≡ found (recordsOf b) e = o ∙ stands-found in
-          let l : length (entriesOf y s) - 1 ≡ left = omega (arith, n) in
-          let k : length (take left (entriesOf y s)) ≡ left = length-take-le left (entriesOf y s) (omega (arith, n)) in
-          rw (undo-standing (recordsOf b) (entriesOf y s) (omega arith) (rw last (it-stands (recordsOf b) e (names .named) q)), last, l, eb, es, q, value-put b (recordsOf b) good e at names (oldValue e), k)
+  passes : (does : Both → Verdict Both) (rs : List (List ℕ)) (es : List Entry) → does (both (recordsOf b) (entriesOf y s)) ≡ passed (both rs es)
+      → buffers (answer 0 (length es) 0 0) (blockOf rs) (sheetOf y es) ≡ onBoth y does b s
+  passes does rs es q = rw q at (goes-on does)
 
--- ---- what the look at block and sheet has found
+  -- ---- amend
 
--- "block, 40" stand for both calls
-pub look-refused : (y : Layout) (does : Both → Verdict Both) (b s : List ℕ) (r : Answer) → onward (judged b) (λ _. opened y s) ≡ refused r → buffers r b s ≡ onBoth y does b s
-unfolding onBoth
-look-refused y does b s r q = refusal-leaves y b s r _ (by (judged b) (opened y s) (does (both (recordsOf b) (entriesOf y s))) q)
-  where
-    by : (v o : Verdict ℕ) (d : Verdict Both) → onward v (λ _. o) ≡ refused r → onward v (λ _. onward o (λ _. d)) ≡ refused r
-    by (refused x) o d q = let e : x ≡ r = cc in ap (λ y. refused y) e
-    by (passed j) (refused x) d q = let e : x ≡ r = cc in ap (λ y. refused y) e
-    by (passed j) (passed k) d q = absurd (never-passed (sym q))
+  module _ (e : Entry) where
+    pub amend-full : y .limit ≤ count → buffers (answer 44 0 0 0) b s ≡ amend y e b s
+    unfolding amendable
+    amend-full full = refuses (amendable y e) (simp (le-leb (y .limit) (length (entriesOf y s)) (omega (arith, h .holds .count-is))))
 
--- the block is accepted, the sheet keeps its layout, and the rest is left to the call
-pub record Looked (y : Layout) (b s : List ℕ) (count : ℕ) : Type 0 where
-  pub accepted : Accepted b
-  pub keeps : KeepsLayout y s
-  pub count-is : count ≡ length (entriesOf y s)
-  pub goes-on : (does : Both → Verdict Both) → doing y does b s ≡ onBoth y does b s
+    -- once the values are exchanged or not
+    module _ (room : count < y .limit) {new : ℕ} {b′ : List ℕ} (spot : Spot) (x : Exchanged b e (oldValue e) new (spotOf spot) b′) where
+      amend-is : amendable y e (both (recordsOf b) (entriesOf y s)) ≡ onward (spotOf spot) (λ _. passed (both (withValue (recordsOf b) e (newValue e)) (entriesOf y s ++ e ∷ [])))
+      amend-is = rw (x .place) (amend-places y e (recordsOf b) (entriesOf y s) (omega (arith, h .holds .count-is)))
 
-pub look-passed : (y : Layout) (b s : List ℕ) (count : ℕ) → Below 256 s → onward (judged b) (λ _. opened y s) ≡ passed count → Looked y b s count
-unfolding onBoth
-look-passed y b s count bytes q =
-    let p = both (judged b) (opened y s) q in
-    let o = sheet-opened y s count bytes (p .2) in
-    record { accepted = record { count = p .0; is = p .1 }; keeps = o .0; count-is = sym (o .1); goes-on = λ does. rw (p .1, p .2) }
-  where
-    both : (v o : Verdict ℕ) → onward v (λ _. o) ≡ passed count → (k : ℕ) × (v ≡ passed k) × (o ≡ passed count)
-    both (refused r) o q = absurd (never-passed q)
-    both (passed k) o q = (k, refl, q)
+      pub amend-refused : (r : Refusal) → spot ≡ Refused r → buffers (refusalOf r) b′ s ≡ amend y e b s
+      amend-refused r q = rw (x .left, q) (refuses (amendable y e) (rw q at amend-is))
+
+      pub amend-done : new ≡ newValue e → (at : Words) {s′ : List ℕ} → spot ≡ Value at → s′ ≡ sheetOf y (entriesOf y s ++ e ∷ []) → buffers (answer 0 (count + 1) 0 0) b′ s′ ≡ amend y e b s
+      amend-done v at q f =
+          let n : count + 1 ≡ length (entriesOf y s ++ e ∷ []) = omega (arith, h .holds .count-is, length-append (entriesOf y s) (e ∷ [])) in
+          rw (x .left, q, v, f, n) (passes (amendable y e) _ _ (rw q at amend-is))
+
+  -- ---- undo
+
+  pub undo-none : count ≡ 0 → buffers (answer 45 0 0 0) b s ≡ undo y b s
+  undo-none z = refuses undoable (undo-empty (recordsOf b) (entriesOf y s) (omega (arith, h .holds .count-is)))
+
+  -- once the values are exchanged back or not
+  module _ (n : count ≡ 0 → ⊥) (e : Entry) (is-last : e ≡ getD (entriesOf y s) (count - 1) []) (spot : Spot) {back : ℕ} {b′ : List ℕ} (x : Exchanged b e (newValue e) back (spotOf spot) b′) where
+    some : 1 ≤ length (entriesOf y s)
+    some = omega (arith, h .holds .count-is)
+
+    last : lastOf (entriesOf y s) ≡ e
+    last = rw (← (h .holds .count-is)) (sym is-last)
+
+    pub undo-refused : (r : Refusal) → spot ≡ Refused r → buffers (answer 46 0 0 0) b′ s ≡ undo y b s
+    undo-refused r q = rw (x .left, q) (refuses undoable (undo-no-place (recordsOf b) (entriesOf y s) some e last (sym (x .place) ∙ ap spotOf q)))
+
+    pub undo-done : back ≡ oldValue e → (at : Words) {s′ : List ℕ} → spot ≡ Value at → s′ ≡ sheetOf y (take (count - 1) (entriesOf y s)) → buffers (answer 0 (count - 1) 0 0) b′ s′ ≡ undo y b s
+    undo-done v at q f =
+        let es = entriesOf y s in
+        let its = names-value (recordsOf b) e (newValue e) (at .0) (sym (x .place) ∙ ap spotOf q) in
+        let l : length es - 1 ≡ count - 1 = omega (arith, h .holds .count-is) in
+        let k : count - 1 ≡ length (take (count - 1) es) = sym (length-take-le (count - 1) es (omega (arith, h .holds .count-is))) in
+        rw (k, x .left, q, v, f) (passes undoable _ _ (rw (last, l) at (undo-standing (recordsOf b) es some (rw last (it-stands (recordsOf b) e (its .named) (its .stands))))))

@@ -63,10 +63,6 @@ abbrev pub leaving : Layout → List ℕ → List ℕ → Verdict Both → Outco
 leaving y block sheet (refused r) = buffers r block sheet
 leaving y block sheet (passed t) = buffers (answer 0 (length (t .entries)) 0 0) (blockOf (t .records)) (sheetOf y (t .entries))
 
--- what is left where a call does this with the records and the entries
-abbrev pub doing : Layout → (Both → Verdict Both) → List ℕ → List ℕ → Outcome
-doing y does block sheet = leaving y block sheet (does (both (recordsOf block) (entriesOf y sheet)))
-
 -- "block, 40", and then what the call does
 unfoldable pub onBoth : Layout → (Both → Verdict Both) → List ℕ → List ℕ → Outcome
 onBoth y does block sheet =

@@ -21,13 +21,12 @@ refusalOf Full = answer 44 0 0 0
 refusalOf Empty = answer 45 0 0 0
 refusalOf NotStanding = answer 46 0 0 0
 
--- so many amendments stand, or the refusal
+-- how many amendments stand, or the refusal
 abbrev pub amendedOf : Amended → Verdict ℕ
 amendedOf (Standing count) = passed count
 amendedOf (Refused r) = refused (refusalOf r)
 
--- so many words before the value, or row 41 or 42
+-- the words before a value, or the refusal
 abbrev pub spotOf : Spot → Verdict ℕ
 spotOf (spot.Value at) = passed (at .0)
-spotOf spot.NoRecord = refused (answer 41 0 0 0)
-spotOf spot.NoValue = refused (answer 42 0 0 0)
+spotOf (spot.Refused r) = refused (refusalOf r)

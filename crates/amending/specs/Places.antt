@@ -42,12 +42,18 @@ noValue rs e = not (isValue (recordIn rs (recordNumber e)) (wordNumber e))
 abbrev pub found : List (List ℕ) → Entry → ℕ
 found rs e = word (recordIn rs (recordNumber e)) (wordNumber e)
 
--- how many words of the block stand before word w of record n: the length word, the records before, and w - 1 of its own; or row 41 or 42
-unfoldable pub valuePlace : List (List ℕ) → ℕ → ℕ → Verdict ℕ
-valuePlace rs n w =
-    if noRecord rs n then refused (answer 41 0 0 0)
-    else if not (isValue (recordIn rs n) w) then refused (answer 42 0 0 0)
-    else passed (length (joined (take (n - 1) rs)) + w)
+-- word w of a record with `at` words of the block before it, where v stands: row 42 or 43, or how many words stand before it
+abbrev pub valueIn : List ℕ → ℕ → ℕ → ℕ → Verdict ℕ
+valueIn r at w v =
+    if not (isValue r w) then refused (answer 42 0 0 0)
+    else if not (eqb v (word r w)) then refused (answer 43 (word r w) 0 0)
+    else passed (at + (w - 1))
+
+-- the place that an entry names, where v stands: row 41, or behind the length word and the records before it
+unfoldable pub valuePlace : List (List ℕ) → Entry → ℕ → Verdict ℕ
+valuePlace rs e v =
+    if noRecord rs (recordNumber e) then refused (answer 41 0 0 0)
+    else valueIn (recordIn rs (recordNumber e)) (1 + length (joined (take (recordNumber e - 1) rs))) (wordNumber e) v
 
 -- the records with this value at the place that the entry names
 unfoldable pub withValue : List (List ℕ) → Entry → ℕ → List (List ℕ)
@@ -57,7 +63,7 @@ withValue rs e v = set rs (recordNumber e - 1) (set (recordIn rs (recordNumber e
 unfoldable pub stands : List (List ℕ) → Entry → Bool
 stands rs e = not (noRecord rs (recordNumber e)) && (not (noValue rs e) && eqb (newValue e) (found rs e))
 
--- a block with a value put in behind so many words, and "patched with old and new word" its last one
+-- a block with a value put in behind `at` words, and its last one "patched with old and new word"
 abbrev pub patched : List ℕ → ℕ → ℕ → ℕ → List ℕ
 patched block at old new =
     let last = length (wordsOf block) - 1 in

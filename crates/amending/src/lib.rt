@@ -6,22 +6,19 @@ use sheet::Opened;
 use units::Answer;
 use units::Words;
 ghost use mathlib.Core.Path.{_≡_};
-ghost use mathlib.Core.List.{[]};
-ghost use Prim.Native.Nat.{_+_, _-_, _≤_, _<_};
-ghost use lib.ListN.{length, getD};
-ghost use lib.Seq.{slice};
-ghost use Rattle.units.specs.Choice.{if_then_else_};
-ghost use Rattle.units.specs.Answers.{answer, answered, passed, refused, onward};
-ghost use Rattle.words.specs.Words.{wordsOf};
-ghost use Rattle.record.specs.Values.{isValue};
-ghost use Rattle.block.specs.Judging.{judged, Accepted};
+ghost use Prim.Native.Nat.{_+_, _≤_, _<_};
+ghost use lib.ListN.{length};
+ghost use Rattle.units.specs.Answers.{answered};
+ghost use Rattle.words.specs.Words.{wordsOf, Below};
+ghost use Rattle.record.specs.Rules.{RecordOk};
+ghost use Rattle.block.specs.Judging.{Accepted};
 ghost use Rattle.block.specs.Records.{recordsOf};
-ghost use Rattle.sheet.specs.Sheets.{version1, entriesOf, opened};
-ghost use Rattle.sheet.specs.Rules.{KeepsLayout};
+ghost use Rattle.sheet.specs.Sheets.{version1};
 ghost use Rattle.sheet.specs.Cases.{entryOf};
-ghost use Rattle.amending.specs.Places.{valuePlace, patched};
+ghost use Rattle.amending.specs.Places.{valueIn, valuePlace, patched};
 ghost use Rattle.amending.specs.Amending as spec;
-ghost use Rattle.amending.specs.Amending.{buffers, doing, amendable, undoable};
+ghost use Rattle.amending.specs.Amending.{buffers};
+ghost use Rattle.amending.specs.Between.{Ready, Looked, Exchanged};
 ghost use Rattle.amending.specs.Cases.{refusalOf, amendedOf, spotOf};
 
 // Why an amendment or its undoing is refused.
@@ -36,44 +33,49 @@ pub enum Refusal {
     NotStanding,
 }
 
-// What becomes of a block and its sheet: so many amendments stand, or nothing has changed.
+// What becomes of a block and its sheet: how many amendments stand, or a refusal that leaves both.
 pub enum Amended {
     Standing(u16),
     Refused(Refusal),
 }
 
-// A value with so many words of the block before it; or there is no such record, or no such value in it.
+// A value's place, as the words of the block before it; or why there is none.
 pub enum Spot {
     Value(Words),
-    NoRecord,
-    NoValue,
+    Refused(Refusal),
 }
 
-// Word `word` of the record of `size` words behind `at` words.
-fn value_in(block: &[u8], at: Words, size: Words, word: u16) -> Spot
-    requires { ⌜ (1 ≤ at .0) × (16 ≤ size .0) × (at .0 + size .0 ≤ length (wordsOf (now block))) ⌝ }
-    ensures { λ r. ⌜ spotOf r ≡ (if isValue (slice (at .0) (at .0 + size .0) (wordsOf (now (block .entry)))) word then passed (at .0 + word - 1) else refused (answer 42 0 0 0)) ⌝ }
+// Word `word` of a good record with `at` words of the block before it, if it may be amended and is `value`.
+fn value_in(whole: &[u8], at: Words, word: u16, value: u16) -> Spot
+    requires { ⌜ RecordOk (wordsOf (now whole)) × (at .0 ≤ 8000) ⌝ }
+    ensures { λ r. ⌜ spotOf r ≡ valueIn (wordsOf (now (whole .entry))) (at .0) word value ⌝ }
 {
-    let start = at.0;
-    let count = size.0;
-    let end = start + count;
     let number = units::words_said(word);
-    let w = number.0;
-    let before = start + w - 1;
-    if record::is_value(words::part(block, at, Words(end)), number) {
-        return Spot::Value(Words(before));
+    if !record::is_value(whole, number) {
+        return Spot::Refused(Refusal::NoValue);
     }
-    Spot::NoValue
+    let i = number.0 - 1;
+    let found = words::word_at(whole, Words(i));
+    if value != found {
+        return Spot::Refused(Refusal::Differs(found));
+    }
+    let start = at.0;
+    Spot::Value(Words(start + i))
 }
 
-// The value that is word `word` of record `number`.
-fn find_value(block: &[u8], number: u16, word: u16) -> Spot
-    requires { ⌜ Accepted (now block) ⌝ }
-    ensures { λ r. ⌜ spotOf r ≡ valuePlace (recordsOf (now (block .entry))) number word ⌝ }
+// The place that an amendment names, if `value` stands there.
+fn find_value(block: &[u8], e: Amendment, value: u16) -> Spot
+    requires { ⌜ Below 256 (now block) × Accepted (now block) ⌝ }
+    ensures { λ r. ⌜ spotOf r ≡ valuePlace (recordsOf (now (block .entry))) (entryOf e) value ⌝ }
 {
-    match block::find(block, number) {
-        Place::NoMore => Spot::NoRecord,
-        Place::Record(at, size) => value_in(block, at, size, word),
+    match block::find(block, e.number) {
+        Place::NoMore => Spot::Refused(Refusal::NoRecord),
+        Place::Record(at, size) => {
+            let start = at.0;
+            let count = size.0;
+            let end = start + count;
+            value_in(words::part(block, at, Words(end)), at, e.word, value)
+        }
     }
 }
 
@@ -88,53 +90,47 @@ fn put_value(block: &mut [u8], at: Words, old: u16, new: u16)
     words::put_word(block, Words(last), checksum ^ old ^ new);
 }
 
-// Judges the block and the sheet: how many amendments stand.
+// Puts `new` at the place that an amendment names, if `old` stands there.
+fn exchange(block: &mut [u8], e: Amendment, old: u16, new: u16) -> Spot
+    requires { ⌜ Below 256 (now block) × Accepted (now block) ⌝ }
+    ensures { λ r. ⌜ Exchanged (now (block .entry)) (entryOf e) old new (spotOf r) (now (block .exit)) ⌝ }
+{
+    match find_value(block, e, old) {
+        Spot::Refused(r) => Spot::Refused(r),
+        Spot::Value(at) => {
+            put_value(block, at, old, new);
+            Spot::Value(at)
+        }
+    }
+}
+
+// Judges the block and opens the sheet: how many amendments stand.
 fn look(block: &[u8], sheet: &[u8]) -> Amended
-    ensures { λ r. ⌜ amendedOf r ≡ onward (judged (now (block .entry))) (λ _. opened version1 (now (sheet .entry))) ⌝ }
+    ensures { λ r. ⌜ Looked version1 (now (block .entry)) (now (sheet .entry)) (amendedOf r) ⌝ }
 {
     match block::judge(block) {
         Judged::Refused(r) => Amended::Refused(Refusal::Block(r)),
-        Judged::Records(_) => look_at_sheet(sheet),
+        Judged::Records(_) => match sheet::open(sheet) {
+            Opened::Broken => Amended::Refused(Refusal::Broken),
+            Opened::Standing(count) => Amended::Standing(count),
+        },
     }
-}
-
-// Opens the sheet, once the block is judged.
-fn look_at_sheet(sheet: &[u8]) -> Amended
-    ensures { λ r. ⌜ amendedOf r ≡ opened version1 (now (sheet .entry)) ⌝ }
-{
-    match sheet::open(sheet) {
-        Opened::Broken => Amended::Refused(Refusal::Broken),
-        Opened::Standing(count) => Amended::Standing(count),
-    }
-}
-
-// Amends the value behind `at` words, if its old value stands there.
-fn amend_at(block: &mut [u8], sheet: &mut [u8], count: u16, at: Words, e: Amendment) -> Amended
-    requires { ⌜ Accepted (now block) × KeepsLayout version1 (now sheet) × (count ≡ length (entriesOf version1 (now sheet))) × (count < version1 .limit) × (valuePlace (recordsOf (now block)) (e .number) (e .word) ≡ passed (at .0)) ⌝ }
-    ensures { λ r. ⌜ buffers (answered (amendedOf r)) (now (block .exit)) (now (sheet .exit)) ≡ doing version1 (amendable version1 (entryOf e)) (now (block .entry)) (now (sheet .entry)) ⌝ }
-{
-    let found = words::word_at(block, at);
-    let old = e.old;
-    if old != found {
-        return Amended::Refused(Refusal::Differs(found));
-    }
-    put_value(block, at, old, e.new);
-    sheet::add_entry(sheet, count, e);
-    Amended::Standing(count + 1)
 }
 
 // Amends a good block, where `count` amendments stand.
 fn amend_next(block: &mut [u8], sheet: &mut [u8], count: u16, e: Amendment) -> Amended
-    requires { ⌜ Accepted (now block) × KeepsLayout version1 (now sheet) × (count ≡ length (entriesOf version1 (now sheet))) ⌝ }
-    ensures { λ r. ⌜ buffers (answered (amendedOf r)) (now (block .exit)) (now (sheet .exit)) ≡ doing version1 (amendable version1 (entryOf e)) (now (block .entry)) (now (sheet .entry)) ⌝ }
+    requires { ⌜ Ready version1 (now block) (now sheet) count ⌝ }
+    ensures { λ r. ⌜ buffers (answered (amendedOf r)) (now (block .exit)) (now (sheet .exit)) ≡ spec.amend version1 (entryOf e) (now (block .entry)) (now (sheet .entry)) ⌝ }
 {
     if sheet::LIMIT <= count {
         return Amended::Refused(Refusal::Full);
     }
-    match find_value(block, e.number, e.word) {
-        Spot::NoRecord => Amended::Refused(Refusal::NoRecord),
-        Spot::NoValue => Amended::Refused(Refusal::NoValue),
-        Spot::Value(at) => amend_at(block, sheet, count, at, e),
+    match exchange(block, e, e.old, e.new) {
+        Spot::Refused(r) => Amended::Refused(r),
+        Spot::Value(_) => {
+            sheet::add_entry(sheet, count, e);
+            Amended::Standing(count + 1)
+        }
     }
 }
 
@@ -148,34 +144,22 @@ pub fn amend(block: &mut [u8], sheet: &mut [u8], e: Amendment) -> Amended
     }
 }
 
-// Puts the old value back behind `at` words, if the new one stands there.
-fn undo_at(block: &mut [u8], sheet: &mut [u8], left: u16, at: Words, e: Amendment) -> Amended
-    requires { ⌜ Accepted (now block) × KeepsLayout version1 (now sheet) × (left + 1 ≡ length (entriesOf version1 (now sheet))) × (entryOf e ≡ getD (entriesOf version1 (now sheet)) left []) × (valuePlace (recordsOf (now block)) (e .number) (e .word) ≡ passed (at .0)) ⌝ }
-    ensures { λ r. ⌜ buffers (answered (amendedOf r)) (now (block .exit)) (now (sheet .exit)) ≡ doing version1 undoable (now (block .entry)) (now (sheet .entry)) ⌝ }
-{
-    let new = e.new;
-    if new != words::word_at(block, at) {
-        return Amended::Refused(Refusal::NotStanding);
-    }
-    put_value(block, at, new, e.old);
-    sheet::clear_last(sheet, left);
-    Amended::Standing(left)
-}
-
 // Undoes the last of `count` amendments of a good block.
 fn undo_last(block: &mut [u8], sheet: &mut [u8], count: u16) -> Amended
-    requires { ⌜ Accepted (now block) × KeepsLayout version1 (now sheet) × (count ≡ length (entriesOf version1 (now sheet))) ⌝ }
-    ensures { λ r. ⌜ buffers (answered (amendedOf r)) (now (block .exit)) (now (sheet .exit)) ≡ doing version1 undoable (now (block .entry)) (now (sheet .entry)) ⌝ }
+    requires { ⌜ Ready version1 (now block) (now sheet) count ⌝ }
+    ensures { λ r. ⌜ buffers (answered (amendedOf r)) (now (block .exit)) (now (sheet .exit)) ≡ spec.undo version1 (now (block .entry)) (now (sheet .entry)) ⌝ }
 {
     if count == 0 {
         return Amended::Refused(Refusal::Empty);
     }
     let left = count - 1;
     let e = sheet::entry_at(sheet, left);
-    match find_value(block, e.number, e.word) {
-        Spot::NoRecord => Amended::Refused(Refusal::NotStanding),
-        Spot::NoValue => Amended::Refused(Refusal::NotStanding),
-        Spot::Value(at) => undo_at(block, sheet, left, at, e),
+    match exchange(block, e, e.new, e.old) {
+        Spot::Refused(_) => Amended::Refused(Refusal::NotStanding),
+        Spot::Value(_) => {
+            sheet::clear_last(sheet, left);
+            Amended::Standing(left)
+        }
     }
 }
 

@@ -24,13 +24,13 @@ use Rattle.write_lines.specs.Text.{textOf, toLines}
 use Rattle.prefix.specs.LookUp.{beside}
 use Rattle.prefix.specs.Table.{table}
 use Rattle.record.specs.Values.{isValue}
-use Rattle.sheet.specs.Sheets.{sheetOf, sheetWith, entriesOf, entries, opened, broken, zeros}
+use Rattle.sheet.specs.Sheets.{sheetOf, sheetWith, entriesOf, entries, opened, broken, allZero}
 use Rattle.amending.specs.Places.{noRecord, withValue, stands}
 use Rattle.amending.specs.Amending.{amendable, undoable, onBoth}
 use Rattle.demands.specs.Examples.{blockK, blockLeast, paperRows, PaperRows, prefixRows, PrefixRows, listingRows, ListingRows, readRows, ReadRows, writtenRows, WrittenRows}
 
 pub paper-rows : PaperRows
-unfolding paperRows blockK blockLeast judged wrongSize walk judgeRecord judgeCards judgeContent judgeData judgeCounts inRange wrongTotal underLeast passing wordWithin wordsOf bytesOf xorAll ones onesIn recordsOf cut toLines written textOf ended linesOf laid plan part times fieldsOf fieldOf decimal lineCount framed joined sheetOf sheetWith entriesOf entries opened broken zeros isValue noRecord withValue stands amendable undoable onBoth number readField columns bytesFrom
+unfolding paperRows blockK blockLeast judged wrongSize walk judgeRecord judgeCards judgeContent judgeData judgeCounts inRange wrongTotal underLeast passing wordWithin wordsOf bytesOf xorAll ones onesIn recordsOf cut toLines written textOf ended linesOf laid plan part times fieldsOf fieldOf decimal lineCount framed joined sheetOf sheetWith entriesOf entries opened broken allZero isValue noRecord withValue stands amendable undoable onBoth number readField columns bytesFrom
 paper-rows = refl
 
 pub prefix-rows : PrefixRows

@@ -1,19 +1,19 @@
 -- What stores into a sheet's bytes make of its entries.
 use mathlib.Core.Path.{_≡_, refl, sym, ap, ap₂, subst, _∙_}
 use mathlib.Core.List.{List, [], _∷_, _++_, append-assoc, append-nil}
-use Prim.Native.Nat.{ℕ, suc, _+_, _-_, _*_, _≤_, _<_}
+use Prim.Native.Nat.{ℕ, zero, suc, _+_, _-_, _*_, _<_}
+use native.Mathlib.Nat.{zero-mul}
 use native.Mathlib.Omega.{arith}
-use lib.ListN.{length, getD, take, replicate, length-append, length-replicate, replicate-append-replicate, List·getD-append}
-use lib.Seq.{sets, length-take-le, take-suc, take-all, getD-drop}
+use lib.ListN.{length, getD, take, drop, replicate, length-append, length-replicate, replicate-append-replicate}
+use lib.Seq.{sets, length-take-le, take-suc, take-all, drop-drop}
 use Rattle.units.specs.Units.{bytesOfWords}
 use Rattle.words.specs.Words.{wordsOf, bytesOf, joined, All}
-use Rattle.words.proofs.Laws.{words-bytes, joined-append}
-use Rattle.words.proofs.Lists.{all-take, all-at, all-parts}
+use Rattle.words.proofs.Laws.{words-drop, joined-append}
+use Rattle.words.proofs.Lists.{all-parts}
 use Rattle.words.proofs.Stores.{sets-right, sets-part, bytes-sets}
-use Rattle.words.proofs.Joined.{joined-room, getD-joined}
-use Rattle.sheet.specs.Sheets.{Layout, Entry, sheetWith, sheetOf}
-use Rattle.sheet.specs.Rules.{IsEntry, IsSheet}
-use Rattle.sheet.proofs.Sheets.{numbersOf, length-joined}
+use Rattle.sheet.specs.Sheets.{Layout, Entry, sheetWith, sheetOf, countIn, numbersIn, entries, entriesOf}
+use Rattle.sheet.specs.Rules.{IsEntry, IsSheet, Holds}
+use Rattle.sheet.proofs.Sheets.{numbersOf, length-joined, length-entries}
 
 -- numbers are put among the numbers
 numbers-put : (v c : ℕ) (ws : List ℕ) (i : ℕ) (xs : List ℕ) → sets (sheetWith v c ws) (8 + bytesOfWords i) (bytesOf xs) ≡ sheetWith v c (sets ws i xs)
@@ -49,54 +49,56 @@ numbers-taken y es e =
     ∙ append-assoc (joined es) e (zerosPast y es)
 
 -- these numbers are put there in place of those, and then the count
-module _ (y : Layout) (es : List Entry) (each : All (IsEntry y) es) where
-  place-put : (s : List ℕ) (c c′ : ℕ) (old new : List ℕ) → s ≡ sheetWith (y .version) c (joined es ++ (old ++ zerosPast y es)) → length old ≡ length new
-      → sets (sets s (8 + bytesOfWords (length es * y .words)) (bytesOf new)) 5 (bytesOf (c′ ∷ [])) ≡ sheetWith (y .version) c′ (joined es ++ (new ++ zerosPast y es))
-  place-put s c c′ old new e h =
-      let v = y .version in
-      let ws = joined es ++ (old ++ zerosPast y es) in
-      let i = length es * y .words in
-      rw (e, numbers-put v c ws i new, count-put v c c′ (sets ws i new), ← (length-joined y es each)) (ap (sheetWith v c′) (sets-part (joined es) old new (zerosPast y es) h))
-
--- an entry is added behind the last
-pub entry-added : (y : Layout) (s : List ℕ) (es : List Entry) (e : Entry) → IsSheet y s es → length es < y .limit → length e ≡ y .words
-    → sets (sets s (8 + bytesOfWords (length es * y .words)) (bytesOf e)) 5 (bytesOf ((length es + 1) ∷ [])) ≡ sheetOf y (es ++ (e ∷ []))
-unfolding sheetOf
-entry-added y s es e h room size =
+place-put : (y : Layout) (es : List Entry) (each : All (IsEntry y) es) (s : List ℕ) (c c′ : ℕ) (old new : List ℕ) → s ≡ sheetWith (y .version) c (joined es ++ (old ++ zerosPast y es)) → length old ≡ length new
+    → sets (sets s (8 + bytesOfWords (length es * y .words)) (bytesOf new)) 5 (bytesOf (c′ ∷ [])) ≡ sheetWith (y .version) c′ (joined es ++ (new ++ zerosPast y es))
+place-put y es each s c c′ old new e h =
     let v = y .version in
-    place-put y es (h .each) s (length es) (length es + 1) (replicate (y .words) 0) e (h .bytes ∙ ap (sheetWith v (length es)) (numbers-free y es room)) (length-replicate (y .words) 0 ∙ sym size)
-    ∙ ap₂ (sheetWith v) (sym (length-append es (e ∷ []))) (sym (numbers-taken y es e))
+    let ws = joined es ++ (old ++ zerosPast y es) in
+    let i = length es * y .words in
+    rw (e, numbers-put v c ws i new, count-put v c c′ (sets ws i new), ← (length-joined y es each)) (ap (sheetWith v c′) (sets-part (joined es) old new (zerosPast y es) h))
 
--- the last entry is cleared
-last-cleared : (y : Layout) (s : List ℕ) (es : List Entry) (e : Entry) → IsSheet y s (es ++ (e ∷ []))
+-- an entry is put behind those that stand, and the count
+pub added : {y : Layout} {s : List ℕ} {count : ℕ} {s₁ s₂ : List ℕ} (e : Entry) → Holds y s count → count < y .limit → length e ≡ y .words
+    → s₁ ≡ sets s (8 + bytesOfWords (count * y .words)) (bytesOf e) → s₂ ≡ sets s₁ 5 (bytesOf ((count + 1) ∷ [])) → s₂ ≡ sheetOf y (entriesOf y s ++ e ∷ [])
+unfolding sheetOf
+added {y} {s} e h room size e₁ e₂ =
+    let v = y .version in
+    let es = entriesOf y s in
+    rw (e₂, e₁, h .count-is) (
+    place-put y es (h .layout .each) s (length es) (length es + 1) (replicate (y .words) 0) e (h .layout .bytes ∙ ap (sheetWith v (length es)) (numbers-free y es (omega (arith, h .count-is)))) (length-replicate (y .words) 0 ∙ sym size)
+    ∙ ap₂ (sheetWith v) (sym (length-append es (e ∷ []))) (sym (numbers-taken y es e))
+    )
+
+-- zeros are put in place of the last entry, and the count
+last-removed : (y : Layout) (s : List ℕ) (es : List Entry) (e : Entry) → IsSheet y s (es ++ e ∷ [])
     → sets (sets s (8 + bytesOfWords (length es * y .words)) (bytesOf (replicate (y .words) 0))) 5 (bytesOf (length es ∷ [])) ≡ sheetOf y es
 unfolding sheetOf
-last-cleared y s es e h =
+last-removed y s es e h =
     let v = y .version in
     let l = length-append es (e ∷ []) in
     let p = all-parts (IsEntry y) es (e ∷ []) (h .each) in
     place-put y es (p .0) s _ (length es) e (replicate (y .words) 0) (h .bytes ∙ ap (sheetWith v _) (numbers-taken y es e)) (p .1 .0 .size ∙ sym (length-replicate (y .words) 0))
     ∙ ap (sheetWith v (length es)) (sym (numbers-free y es (omega (arith, h .most))))
 
-pub entry-cleared : (y : Layout) (s : List ℕ) (es : List Entry) → IsSheet y s es → 1 ≤ length es
-    → sets (sets s (8 + bytesOfWords ((length es - 1) * y .words)) (bytesOf (replicate (y .words) 0))) 5 (bytesOf ((length es - 1) ∷ [])) ≡ sheetOf y (take (length es - 1) es)
-entry-cleared y s es h some =
-    let n = length es - 1 in
-    let e : es ≡ take n es ++ (getD es n [] ∷ []) = sym (take-all (suc n) es (omega arith)) ∙ take-suc es n [] (omega arith) in
-    rw (length-take-le n es (omega arith)) at (last-cleared y s (take n es) (getD es n []) (subst (IsSheet y s) e h))
+pub removed : {y : Layout} {s s₁ s₂ : List ℕ} (left : ℕ) → Holds y s (left + 1)
+    → s₁ ≡ sets s (8 + bytesOfWords (left * y .words)) (bytesOf (replicate (y .words) 0)) → s₂ ≡ sets s₁ 5 (bytesOf (left ∷ [])) → s₂ ≡ sheetOf y (take left (entriesOf y s))
+removed {y} {s} left h e₁ e₂ =
+    let es = entriesOf y s in
+    let split : es ≡ take left es ++ getD es left [] ∷ [] = sym (take-all (suc left) es (omega (arith, h .count-is))) ∙ take-suc es left [] (omega (arith, h .count-is)) in
+    rw (e₂, e₁) (rw (length-take-le left es (omega (arith, h .count-is))) at (last-removed y s (take left es) (getD es left []) (subst (IsSheet y s) split (h .layout))))
 
--- a number of an entry, among the words of the sheet
-pub entry-number : (y : Layout) (s : List ℕ) (es : List Entry) (i j : ℕ) → IsSheet y s es → i < length es → j < y .words
-    → getD (wordsOf s) (4 + i * y .words + j) 0 ≡ getD (getD es i []) j 0
-unfolding sheetOf sheetWith bytesOf wordsOf
-entry-number y s es i j h there within =
-    let before : length (joined (take i es)) ≡ i * y .words = length-joined y (take i es) (all-take (IsEntry y) i es (h .each)) ∙ ap (λ n. n * y .words) (length-take-le i es (omega arith)) in
-    let it = all-at (IsEntry y) es i [] there (h .each) in
-    let room : j < length (getD es i []) = omega (arith, it .size) in
-    let k = length (joined (take i es)) + j in
-    let place : 4 + i * y .words + j ≡ 4 + k = omega arith in
-    ap₂ (λ (b : List ℕ) (n : ℕ). getD (wordsOf b) n 0) (h .bytes) place
-    ∙ sym (getD-drop 4 (wordsOf (sheetOf y es)) k 0)
-    ∙ ap (λ l. getD l k 0) (words-bytes (numbersOf y es))
-    ∙ List·getD-append (joined es) _ 0 k (joined-room es i j there room)
-    ∙ getD-joined es i j there room
+-- ---- an entry that is read
+
+-- entry i is cut out of the numbers behind those before it
+entry-cut : (size n : ℕ) (ws : List ℕ) (i : ℕ) → i < n → getD (entries size n ws) i [] ≡ take size (drop (i * size) ws)
+unfolding entries
+entry-cut size zero ws i h = absurd (omega arith)
+entry-cut size (suc n) ws zero h = rw zero-mul
+entry-cut size (suc n) ws (suc i) h = let e : suc i * size ≡ size + i * size = omega arith in rw (e, ← drop-drop) (entry-cut size n (drop size ws) i (omega arith))
+
+-- so it stands among the words of the sheet
+pub entry-words : (y : Layout) (s : List ℕ) (i : ℕ) → i < length (entriesOf y s) → getD (entriesOf y s) i [] ≡ take (y .words) (drop (4 + i * y .words) (wordsOf s))
+unfolding entriesOf
+entry-words y s i h =
+    let n = length-entries (y .words) (countIn s) (numbersIn s) in
+    entry-cut (y .words) (countIn s) (numbersIn s) i (omega arith) ∙ ap (λ l. take (y .words) (drop (i * y .words) l)) (words-drop 4 s) ∙ ap (take (y .words)) (drop-drop (i * y .words) 4 (wordsOf s))

@@ -1,12 +1,12 @@
 -- A sheet that keeps its layout and a list of entries determine each other.
 use mathlib.Core.Path.{_≡_, refl, sym, ap, ap₂, _∙_}
-use mathlib.Core.Bool.{Bool, true, false, not}
+use mathlib.Core.Bool.{Bool, true, false, _||_}
 use mathlib.Core.List.{List, [], _∷_, _++_, append-assoc}
 use Prim.Native.Nat.{ℕ, zero, suc, _+_, _-_, _*_, _/_, _%_, _≤_, _<_}
 use native.Mathlib.Nat.{zero-mul, add-mul, mul-le-mul-right}
 use native.Mathlib.Omega.{arith}
 use borrow.Author.Tests.{ltb-false, eqb-true, not-false, le-ltb, eq-eqb}
-use lib.Dec.{eqb, ltb}
+use lib.Dec.{eqb}
 use lib.ListN.{length, getD, take, drop, replicate, length-append, length-drop, length-replicate, take-append-drop}
 use lib.Seq.{length-take-le, take-at, drop-at, take-add, drop-cons}
 use Rattle.units.specs.Choice.{if_then_else_}
@@ -17,7 +17,7 @@ use Rattle.words.specs.Words.{wordsOf, bytesOf, joined, All, Below}
 use Rattle.words.proofs.Laws.{length-wordsOf, length-bytesOf, bytes-words, words-bytes, words-below, getD-below}
 use Rattle.words.proofs.Lists.{all-take, all-drop}
 use Rattle.words.specs.Scans.{passing, isZero}
-use Rattle.sheet.specs.Sheets.{Layout, Entry, sheetBytes, sheetWith, sheetOf, numberAt, countIn, numbersIn, entries, entriesOf, zeros, wrongMark, broken, opened}
+use Rattle.sheet.specs.Sheets.{Layout, Entry, sheetBytes, sheetWith, sheetOf, numberAt, countIn, numbersIn, entries, entriesOf, allZero, broken, opened}
 use Rattle.sheet.specs.Rules.{IsEntry, IsSheet}
 
 -- a scan for words that are not zero passes zeros, and only zeros
@@ -62,7 +62,7 @@ joined-entries size (suc n) ws =
     rw e (ap (λ l. take size ws ++ l) (joined-entries size n (drop size ws)) ∙ sym (take-add size (n * size) ws))
 
 -- they are as many
-length-entries : (size n : ℕ) (ws : List ℕ) → length (entries size n ws) ≡ n
+pub length-entries : (size n : ℕ) (ws : List ℕ) → length (entries size n ws) ≡ n
 unfolding entries
 length-entries size zero ws = refl
 length-entries size (suc n) ws = ap suc (length-entries size n (drop size ws))
@@ -99,10 +99,6 @@ module _ (v c : ℕ) (ws : List ℕ) where
   unfolding sheetWith bytesOf
   length-with = omega (arith, length-bytesOf ws)
 
-  version-with : numberAt (sheetWith v c ws) 3 ≡ v
-  unfolding sheetWith bytesOf
-  version-with = omega arith
-
   count-with : countIn (sheetWith v c ws) ≡ c
   unfolding sheetWith bytesOf
   count-with = omega arith
@@ -112,8 +108,8 @@ module _ (v c : ℕ) (ws : List ℕ) where
   numbers-with = words-bytes ws
 
 -- the tests of a sheet, as facts
-record Kept (y : Layout) (s : List ℕ) : Type 0 where
-  size : length s ≡ sheetBytes y
+pub record Unbroken (y : Layout) (s : List ℕ) : Type 0 where
+  pub size : length s ≡ sheetBytes y
   mark-1 : getD s 0 0 ≡ 65
   mark-2 : getD s 1 0 ≡ 77
   mark-3 : getD s 2 0 ≡ 68
@@ -122,45 +118,23 @@ record Kept (y : Layout) (s : List ℕ) : Type 0 where
   zero-byte : getD s 7 0 ≡ 0
   past : passing isZero (drop (countIn s * y .words) (numbersIn s)) ≡ length (drop (countIn s * y .words) (numbersIn s))
 
--- a sheet that is opened passed them all
-opened-kept : (y : Layout) (s : List ℕ) (k : ℕ) → opened y s ≡ passed k → Kept y s × (countIn s ≡ k)
-unfolding opened broken zeros
-opened-kept y s k e =
-    let o = else-passed (broken y s) (answer 40 0 0 0) (passed (countIn s)) k e in
-    let a = or-off (not (eqb (length s) (sheetBytes y))) _ (o .0) in
-    let m = or-off (wrongMark s) _ (a .1) in
-    let m₁ = or-off (not (eqb (getD s 0 0) 65)) _ (m .0) in
-    let m₂ = or-off (not (eqb (getD s 1 0) 77)) _ (m₁ .1) in
-    let v = or-off (not (eqb (numberAt s 3) (y .version))) _ (m .1) in
-    let c = or-off (ltb (y .limit) (countIn s)) _ (v .1) in
-    let z = or-off (not (eqb (getD s 7 0) 0)) _ (c .1) in (
-      record {
-        size = eqb-true (length s) (sheetBytes y) (not-false _ (a .0));
-        mark-1 = eqb-true (getD s 0 0) 65 (not-false _ (m₁ .0));
-        mark-2 = eqb-true (getD s 1 0) 77 (not-false _ (m₂ .0));
-        mark-3 = eqb-true (getD s 2 0) 68 (not-false _ (m₂ .1));
-        version-is = eqb-true (numberAt s 3) (y .version) (not-false _ (v .0));
-        most = ltb-false (y .limit) (countIn s) (c .0);
-        zero-byte = eqb-true (getD s 7 0) 0 (not-false _ (z .0));
-        past = eqb-true _ _ (not-false _ (z .1));
-      },
-      cc (o .1),
-    )
+or-left : (s t : Bool) → (s || t) ≡ false → s ≡ false
+or-left s t e = or-off s t e .0
+
+or-right : (s t : Bool) → (s || t) ≡ false → t ≡ false
+or-right s t e = or-off s t e .1
+
+-- a sheet that is not broken passed them all
+pub unbroken : (y : Layout) (s : List ℕ) → broken y s ≡ false → Unbroken y s
+unfolding broken allZero
+unbroken y s e = search (or-left, or-right, not-false, eqb-true, ltb-false) depth 10
 
 -- and one that passes them all is opened
-kept-opened : (y : Layout) (s : List ℕ) → Kept y s → opened y s ≡ passed (countIn s)
-unfolding opened broken zeros
-kept-opened y s h =
-    simp (
-      eq-eqb (length s) (sheetBytes y) (h .size),
-      h .mark-1,
-      h .mark-2,
-      h .mark-3,
-      eq-eqb (numberAt s 3) (y .version) (h .version-is),
-      le-ltb (y .limit) (countIn s) (h .most),
-      h .zero-byte,
-      eq-eqb _ _ (h .past),
-    )
+unbroken-opened : (y : Layout) (s : List ℕ) → Unbroken y s → opened y s ≡ passed (countIn s)
+unfolding opened broken allZero
+unbroken-opened y s h =
+    simp (eq-eqb (length s) (sheetBytes y) (h .size), h .mark-1, h .mark-2, h .mark-3, h .zero-byte, eq-eqb _ _ (h .past))
+    (simp (eq-eqb (numberAt s 3) (y .version) (h .version-is), le-ltb (y .limit) (countIn s) (h .most)))
 
 -- ---- from the entries to the sheet
 
@@ -170,9 +144,9 @@ unfolding sheetOf
 length-sheet y s es h = ap length (h .bytes) ∙ length-with (y .version) (length es) (numbersOf y es) ∙ ap (λ n. 8 + bytesOfWords n) (length-numbers y es (h .each) (h .most))
 
 -- and passes each test
-sheet-kept : (y : Layout) (es : List Entry) → IsSheet y (sheetOf y es) es → Kept y (sheetOf y es)
+sheet-unbroken : (y : Layout) (es : List Entry) → IsSheet y (sheetOf y es) es → Unbroken y (sheetOf y es)
 unfolding sheetOf sheetWith bytesOf
-sheet-kept y es h =
+sheet-unbroken y es h =
     let v = y .version in
     let n = length es in
     let ws = numbersOf y es in
@@ -182,9 +156,9 @@ sheet-kept y es h =
       mark-1 = refl;
       mark-2 = refl;
       mark-3 = refl;
-      version-is = version-with v n ws;
-      most = rw (count-with v n ws) (h .most);
       zero-byte = refl;
+      version-is = omega arith;
+      most = rw (count-with v n ws) (h .most);
       past = rw (count-with v n ws, numbers-with v n ws, drop-at (joined es) (replicate past 0) (n * y .words) (length-joined y es (h .each))) (zeros-pass past ∙ sym (length-replicate past 0));
     }
 
@@ -197,14 +171,14 @@ opened-sheet y s es h =
     let ws = numbersOf y es in
     let count = count-with v n ws in
     rw (h .bytes) (
-      kept-opened y (sheetOf y es) (sheet-kept y es (rw (h .bytes) at h)) ∙ ap (λ k. passed k) count,
+      unbroken-opened y (sheetOf y es) (sheet-unbroken y es (rw (h .bytes) at h)) ∙ ap (λ k. passed k) count,
       ap₂ (entries (y .words)) count (numbers-with v n ws) ∙ entries-joined y es _ (h .each),
     )
 
 -- ---- from the sheet to the entries
 
 -- bytes are the sheet of their parts
-with-parts : (y : Layout) (s : List ℕ) → Below 256 s → Kept y s → s ≡ sheetWith (y .version) (countIn s) (numbersIn s)
+with-parts : (y : Layout) (s : List ℕ) → Below 256 s → Unbroken y s → s ≡ sheetWith (y .version) (countIn s) (numbersIn s)
 unfolding sheetWith bytesOf
 with-parts y s b h =
     let d : (j : ℕ) → j < 8 → drop j s ≡ getD s j 0 ∷ drop (suc j) s = λ j k. drop-cons s j 0 (omega (arith, h .size)) in
@@ -217,7 +191,7 @@ with-parts y s b h =
     rw (← (h .version-is), v₁, v₂, c₁, c₂, t)
     (cc (d 0 (omega arith), d 1 (omega arith), d 2 (omega arith), d 3 (omega arith), d 4 (omega arith), d 5 (omega arith), d 6 (omega arith), d 7 (omega arith), h .mark-1, h .mark-2, h .mark-3, h .zero-byte))
 
--- numbers that are zero past so many entries are the numbers of those entries
+-- numbers that are zero past the first n entries are the numbers of those entries
 numbers-entries : (y : Layout) (n : ℕ) (ws : List ℕ) → n ≤ y .limit → length ws ≡ y .limit * y .words → passing isZero (drop (n * y .words) ws) ≡ length (drop (n * y .words) ws)
     → ws ≡ numbersOf y (entries (y .words) n ws)
 numbers-entries y n ws most size none =
@@ -227,10 +201,11 @@ numbers-entries y n ws most size none =
 
 -- a sheet that is opened is the sheet of its entries
 pub sheet-opened : (y : Layout) (s : List ℕ) (k : ℕ) → Below 256 s → opened y s ≡ passed k → IsSheet y s (entriesOf y s) × (length (entriesOf y s) ≡ k)
-unfolding entriesOf sheetOf
+unfolding entriesOf sheetOf opened
 sheet-opened y s k b e =
-    let p = opened-kept y s k e in
-    let h = p .0 in
+    let o = else-passed (broken y s) (answer 40 0 0 0) (passed (countIn s)) k e in
+    let h = unbroken y s (o .0) in
+    let c : countIn s ≡ k = cc (o .1) in
     let ws = numbersIn s in
     let size : length ws ≡ y .limit * y .words = omega (arith, length-wordsOf (drop 8 s), length-drop 8 s, h .size) in
     let n = length-entries (y .words) (countIn s) ws in (
@@ -239,5 +214,5 @@ sheet-opened y s k b e =
         each = entries-each y (countIn s) ws (omega (arith, mul-le-mul-right (y .words) (h .most))) (words-below (drop 8 s) (all-drop (λ x. x < 256) 8 s b));
         most = rw n (h .most);
       },
-      n ∙ p .1,
+      n ∙ c,
     )

@@ -10,7 +10,7 @@ use Rattle.sheet.specs.declared.Opened.the-variants.{Standing, Broken}
 abbrev pub entryOf : Amendment → List ℕ
 entryOf e = e .number ∷ e .word ∷ e .old ∷ e .new ∷ []
 
--- so many amendments stand; row 40
+-- how many amendments stand, or row 40
 abbrev pub openedOf : Opened → Verdict ℕ
 openedOf (Standing count) = passed count
 openedOf Broken = refused (answer 40 0 0 0)

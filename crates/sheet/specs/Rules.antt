@@ -20,3 +20,8 @@ pub record IsSheet (y : Layout) (s : List ℕ) (es : List Entry) : Type 0 where
 -- a sheet that keeps its layout is the sheet of the entries that stand in it
 abbrev pub KeepsLayout : Layout → List ℕ → Type 0
 KeepsLayout y s = IsSheet y s (entriesOf y s)
+
+-- and they are `count`
+pub record Holds (y : Layout) (s : List ℕ) (count : ℕ) : Type 0 where
+  pub layout : KeepsLayout y s
+  pub count-is : count ≡ length (entriesOf y s)

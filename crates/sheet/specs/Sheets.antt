@@ -37,7 +37,7 @@ sheetWith version count numbers = 65 ∷ 77 ∷ 68 ∷ bytesOf (version ∷ coun
 unfoldable pub sheetOf : Layout → List Entry → List ℕ
 sheetOf y es = sheetWith (y .version) (length es) (joined es ++ replicate ((y .limit - length es) * y .words) 0)
 
--- a 16-bit number behind so many bytes
+-- the 16-bit number behind i bytes
 abbrev pub numberAt : List ℕ → ℕ → ℕ
 numberAt s i = getD s i 0 * 256 + getD s (i + 1) 0
 
@@ -49,7 +49,7 @@ countIn s = numberAt s 5
 abbrev pub numbersIn : List ℕ → List ℕ
 numbersIn s = wordsOf (drop 8 s)
 
--- the first so many entries, of so many words each
+-- the first n entries, of `size` words each
 unfoldable pub entries : ℕ → ℕ → List ℕ → List Entry
 entries size zero ws = []
 entries size (suc n) ws = take size ws ∷ entries size n (drop size ws)
@@ -59,8 +59,8 @@ unfoldable pub entriesOf : Layout → List ℕ → List Entry
 entriesOf y s = entries (y .words) (countIn s) (numbersIn s)
 
 -- all of them are zero
-unfoldable pub zeros : List ℕ → Bool
-zeros ws = eqb (passing isZero ws) (length ws)
+unfoldable pub allZero : List ℕ → Bool
+allZero ws = eqb (passing isZero ws) (length ws)
 
 -- the mark is wrong
 abbrev pub wrongMark : List ℕ → Bool
@@ -70,7 +70,7 @@ wrongMark s = not (eqb (getD s 0 0) 65) || (not (eqb (getD s 1 0) 77) || not (eq
 unfoldable pub broken : Layout → List ℕ → Bool
 broken y s =
     not (eqb (length s) (sheetBytes y)) || (wrongMark s || (not (eqb (numberAt s 3) (y .version)) || (ltb (y .limit) (countIn s)
-    || (not (eqb (getD s 7 0) 0) || not (zeros (drop (countIn s * y .words) (numbersIn s)))))))
+    || (not (eqb (getD s 7 0) 0) || not (allZero (drop (countIn s * y .words) (numbersIn s)))))))
 
 -- how many amendments stand, or row 40
 unfoldable pub opened : Layout → List ℕ → Verdict ℕ

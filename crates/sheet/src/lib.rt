@@ -12,16 +12,16 @@ ghost use Rattle.units.specs.Units.{bytesOfWords};
 ghost use Rattle.units.specs.Answers.{answered};
 ghost use Rattle.words.specs.Words.{bytesOf};
 ghost use Rattle.words.specs.Outcomes.{leaves};
-ghost use Rattle.sheet.specs.Sheets.{version1, sheetBytes, sheetOf, numberAt, numbersIn, entriesOf, zeros, wrongMark, broken, opened, started};
-ghost use Rattle.sheet.specs.Rules.{KeepsLayout};
+ghost use Rattle.sheet.specs.Sheets.{version1, sheetBytes, sheetOf, numberAt, numbersIn, entriesOf, allZero, wrongMark, broken, opened, started};
+ghost use Rattle.sheet.specs.Rules.{KeepsLayout, Holds};
 ghost use Rattle.sheet.specs.Cases.{entryOf, openedOf};
 
 const VERSION: u16 = 1;
 
-// So many bytes.
+// The bytes of a sheet.
 const SIZE: usize = 520;
 
-// So many entries at most.
+// The most entries.
 pub const LIMIT: u16 = 64;
 
 // The numbers of an entry: record number, word number in the record, old value, new value.
@@ -32,7 +32,7 @@ pub struct Amendment {
     pub new: u16,
 }
 
-// What is found of a sheet: so many amendments stand, or it does not keep its layout.
+// What is found of a sheet: how many amendments stand, or that it does not keep its layout.
 pub enum Opened {
     Standing(u16),
     Broken,
@@ -53,13 +53,10 @@ fn wrong_mark(sheet: &[u8]) -> bool
     requires { ⌜ 8 ≤ length (now sheet) ⌝ }
     ensures { λ r. ⌜ r ≡ wrongMark (now (sheet .entry)) ⌝ }
 {
-    if sheet[0] != b'A' {
-        return true;
-    }
-    if sheet[1] != b'M' {
-        return true;
-    }
-    sheet[2] != b'D'
+    let first = sheet[0] != b'A';
+    let second = sheet[1] != b'M';
+    let third = sheet[2] != b'D';
+    first | (second | third)
 }
 
 // The words of a sheet before entry `i`, counted from 0: its first 8 bytes are 4 words.
@@ -71,36 +68,32 @@ fn before_entry(i: u16) -> Words
 
 // Something stands past the first `count` entries.
 fn more_stands(sheet: &[u8], count: u16) -> bool
-    requires { ⌜ (count ≤ version1 .limit) × (length (now sheet) ≡ sheetBytes version1) ⌝ }
-    ensures { λ r. ⌜ r ≡ not (zeros (drop (count * version1 .words) (numbersIn (now (sheet .entry))))) ⌝ }
+    requires { ⌜ length (now sheet) ≡ sheetBytes version1 ⌝ }
+    ensures { λ r. ⌜ r ≡ not (allZero (drop (count * version1 .words) (numbersIn (now (sheet .entry))))) ⌝ }
 {
+    if LIMIT <= count {
+        return false;
+    }
     let rest = words::part(sheet, before_entry(count), before_entry(LIMIT));
     let clear = words::first_outside(rest, 0, 0).0;
     let all = words::count(rest).0;
     clear != all
 }
 
-// The sheet does not keep its layout.
+// The sheet does not keep its layout. Its tests are flags, with no early exit, so that the proof has no cases.
 fn is_broken(sheet: &[u8]) -> bool
     ensures { λ r. ⌜ r ≡ broken version1 (now (sheet .entry)) ⌝ }
 {
     if sheet.len() != SIZE {
         return true;
     }
-    if wrong_mark(sheet) {
-        return true;
-    }
-    if number_at(sheet, Bytes(3)) != VERSION {
-        return true;
-    }
+    let mark = wrong_mark(sheet);
+    let version = number_at(sheet, Bytes(3)) != VERSION;
     let count = number_at(sheet, Bytes(5));
-    if LIMIT < count {
-        return true;
-    }
-    if sheet[7] != 0 {
-        return true;
-    }
-    more_stands(sheet, count)
+    let many = LIMIT < count;
+    let byte = sheet[7] != 0;
+    let past = more_stands(sheet, count);
+    mark | (version | (many | (byte | past)))
 }
 
 // How many amendments stand in a sheet, if it keeps its layout.
@@ -165,28 +158,30 @@ pub fn entry_at(sheet: &[u8], i: u16) -> Amendment
 
 // Puts a number behind the mark and the version.
 fn put_count(sheet: &mut [u8], count: u16)
-    requires { ⌜ 8 ≤ length (now sheet) ⌝ }
+    requires { ⌜ length (now sheet) ≡ sheetBytes version1 ⌝ }
     ensures { λ _. ⌜ now (sheet .exit) ≡ sets (now (sheet .entry)) 5 (bytesOf (count ∷ [])) ⌝ }
 {
     sheet[5] = (count / 256) as u8;
     sheet[6] = (count % 256) as u8;
 }
 
-// Puts four numbers in place of entry `i`.
+// Puts the numbers of an amendment in place of entry `i`.
 fn put_numbers(sheet: &mut [u8], i: u16, e: Amendment)
     requires { ⌜ (i < version1 .limit) × (length (now sheet) ≡ sheetBytes version1) ⌝ }
     ensures { λ _. ⌜ now (sheet .exit) ≡ sets (now (sheet .entry)) (8 + bytesOfWords (i * version1 .words)) (bytesOf (entryOf e)) ⌝ }
 {
     let at = before_entry(i).0;
-    words::put_word(sheet, Words(at), e.number);
-    words::put_word(sheet, Words(at + 1), e.word);
-    words::put_word(sheet, Words(at + 2), e.old);
-    words::put_word(sheet, Words(at + 3), e.new);
+    let numbers = [e.number, e.word, e.old, e.new];
+    let mut k = 0;
+    while k < 4 {
+        words::put_word(sheet, Words(at + k), numbers[k]);
+        k += 1;
+    }
 }
 
 // Adds an entry after the `count` that stand.
 pub fn add_entry(sheet: &mut [u8], count: u16, e: Amendment)
-    requires { ⌜ KeepsLayout version1 (now sheet) × (count ≡ length (entriesOf version1 (now sheet))) × (count < version1 .limit) ⌝ }
+    requires { ⌜ Holds version1 (now sheet) count × (count < version1 .limit) ⌝ }
     ensures { λ _. ⌜ now (sheet .exit) ≡ sheetOf version1 (entriesOf version1 (now (sheet .entry)) ++ entryOf e ∷ []) ⌝ }
 {
     put_numbers(sheet, count, e);
@@ -195,7 +190,7 @@ pub fn add_entry(sheet: &mut [u8], count: u16, e: Amendment)
 
 // Clears the last of the entries, with `left` before it.
 pub fn clear_last(sheet: &mut [u8], left: u16)
-    requires { ⌜ KeepsLayout version1 (now sheet) × (left + 1 ≡ length (entriesOf version1 (now sheet))) ⌝ }
+    requires { ⌜ Holds version1 (now sheet) (left + 1) ⌝ }
     ensures { λ _. ⌜ now (sheet .exit) ≡ sheetOf version1 (take left (entriesOf version1 (now (sheet .entry)))) ⌝ }
 {
     let none = Amendment {

@@ -1,7 +1,6 @@
 -- Document 01, "Units": words, lines and bytes, and the conversions between them. There are no others.
 use mathlib.Core.List.{List}
 use Prim.Native.Nat.{ℕ, _+_, _*_, _/_}
-use mathlib.Core.List.{List}
 
 -- a line is its bytes, without its end
 abbrev pub Line : Type 0
@@ -34,7 +33,3 @@ columnsOfFields w = 6 * w
 -- "Every line ends with LF"
 abbrev pub endsOfLines : ℕ → ℕ
 endsOfLines l = l
-
--- a line is its bytes, without its end
-abbrev pub Line : Type 0
-Line = List ℕ

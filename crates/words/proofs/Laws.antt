@@ -3,7 +3,7 @@ use mathlib.Core.Path.{_≡_, refl, sym, ap, _∙_}
 use Prim.Native.Nat.{ℕ, zero, suc, _+_, _*_, _/_, _%_, _≤_, _<_}
 use mathlib.Core.List.{List, [], _∷_, _++_, append-assoc}
 use native.Mathlib.Omega.{arith}
-use lib.ListN.{length, getD, take, drop}
+use lib.ListN.{length, getD, take, drop, replicate}
 use lib.Seq.{slice, drop-nil, length-slice}
 use Rattle.words.specs.Words.{wordsOf, bytesOf, joined, Below}
 use Rattle.words.proofs.Lists.{all-getD, all-take, all-drop}
@@ -60,6 +60,12 @@ unfolding bytesOf
 bytes-append [] ys = refl
 bytes-append (w ∷ xs) ys = ap (λ t. (w / 256) ∷ ((w % 256) ∷ t)) (bytes-append xs ys)
 
+-- zeros are zero bytes
+pub zero-bytes : (n : ℕ) → bytesOf (replicate n 0) ≡ replicate (n * 2) 0
+unfolding bytesOf
+zero-bytes zero = refl
+zero-bytes (suc n) = let e : suc n * 2 ≡ suc (suc (n * 2)) = omega arith in rw (e, zero-bytes n)
+
 pub words-below : (b : List ℕ) → Below 256 b → Below 65536 (wordsOf b)
 unfolding wordsOf
 words-below [] h = tt
@@ -67,7 +73,7 @@ words-below (x ∷ []) h = tt
 words-below (x ∷ y ∷ r) h = (omega (arith, h .0, h .1 .0), words-below r (h .1 .1))
 
 -- the words of a part of the bytes are a part of the words
-words-drop : (n : ℕ) (b : List ℕ) → wordsOf (drop (n * 2) b) ≡ drop n (wordsOf b)
+pub words-drop : (n : ℕ) (b : List ℕ) → wordsOf (drop (n * 2) b) ≡ drop n (wordsOf b)
 unfolding wordsOf
 words-drop zero b = refl
 words-drop (suc n) [] = let e : suc n * 2 ≡ suc (suc (n * 2)) = omega arith in rw e refl

@@ -1,33 +1,15 @@
-use Rattle.sheet.specs.Cases.{entryOf}
-use mathlib.Core.Path.{refl}
-use denote.Ref.{now}
-use native.Mathlib.Omega.{arith}
-use Rattle.sheet.proofs.Stores.{added}
-use Rattle.sheet.proofs.Sheets.{length-sheet}
-use Rattle.sheet.specs.Sheets.{version1, entriesOf}
 use borrow.Author.Needs.{needs}
+use Rattle.sheet.proofs.Entries.{added}
+use Rattle.sheet.proofs.Stores.{holds-size, holds-kept}
 use Rattle.sheet.proofs.add_entry.Statement.{statement}
 use Rattle.sheet.proofs.add_entry.Tie as tie
 
--- back from one place to another
-abbrev start-before-sheet2 : tie.After-sheet2 → tie.Start
-start-before-sheet2 c = c .before .before .before .before .before .before .before .before
-
-put-numbers-requires : tie.Need-put-numbers-requires
-put-numbers-requires c κs = let s = now (c .before .before .args .sheet) in (c .before .before .pre .2, length-sheet version1 s (entriesOf version1 s) (c .before .before .pre .0))
-
-add-put-count : tie.Need-add-put-count
-add-put-count c = search needs
-
-put-count-requires : tie.Need-put-count-requires
-put-count-requires c κs = let s = now (c .before .before .before .before .before .before .args .sheet) in omega (arith, c .before .before .before .put-numbers .kept .0, length-sheet version1 s (entriesOf version1 s) (c .before .before .before .before .before .before .pre .0))
-
-same-length : tie.Need-same-length
-same-length c = search needs
-
-returns : tie.Need-returns
-returns c = added version1 (now (start-before-sheet2 (c .before) .args .sheet)) (start-before-sheet2 (c .before) .args .count) (entryOf (start-before-sheet2 (c .before) .args .e)) (start-before-sheet2 (c .before) .pre .0) (start-before-sheet2 (c .before) .pre .1) (start-before-sheet2 (c .before) .pre .2) refl (c .before .before .before .before .before .before .put-numbers .ensures) (c .before .before .put-count .ensures)
-
 pub add-entry-spec : {M : Type 1} → statement M
 add-entry-spec =
-    tie.close (tie.spec put-numbers-requires add-put-count put-count-requires same-length returns)
+    tie.close
+    (tie.spec
+    (λ c κs. search (holds-size, needs))
+    (λ c. search needs)
+    (λ c κs. search holds-kept)
+    (λ c. search needs)
+    (λ c. search added))
