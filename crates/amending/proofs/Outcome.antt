@@ -1,5 +1,5 @@
 -- What amend and undo leave of a block and its sheet, from what the code has found and stored.
-use mathlib.Core.Path.{_≡_, sym, ap, _∙_}
+use mathlib.Core.Path.{_≡_, refl, sym, ap, _∙_}
 use mathlib.Core.List.{List, [], _∷_, _++_}
 use Prim.Native.Nat.{ℕ, _+_, _-_, _≤_, _<_}
 use native.Mathlib.Omega.{arith}
@@ -11,18 +11,11 @@ use Rattle.units.specs.declared.Words.{Words}
 use Rattle.units.specs.Answers.{answer, Verdict, passed, refused, onward}
 use mir.Syntax.{w8}
 use mir.Val.{Fits}
+use Rattle.units.proofs.Verdicts.{never-passed}
 use Rattle.words.proofs.Laws.{all-below}
-use Rattle.block.specs.Cases as block
-use Rattle.block.specs.Cases.{judgedOf}
-use Rattle.block.specs.declared.Judged.{Judged}
-use Rattle.block.specs.declared.Judged.the-variants as judge
-use Rattle.block.specs.declared.Refusal as refusal
 use Rattle.block.specs.Judging.{judged}
 use Rattle.block.specs.Records.{recordsOf}
 use Rattle.block.specs.Rules.{blockOf}
-use Rattle.sheet.specs.declared.Opened.{Opened}
-use Rattle.sheet.specs.declared.Opened.the-variants.{Standing, Broken}
-use Rattle.sheet.specs.Cases.{openedOf}
 use Rattle.sheet.specs.Sheets.{Layout, Entry, sheetOf, entriesOf, opened}
 use Rattle.sheet.proofs.Sheets.{opened-sheet, sheet-opened}
 use Rattle.amending.specs.declared.Refusal.{Refusal}
@@ -33,37 +26,29 @@ use Rattle.amending.specs.declared.Spot.the-variants.{Value, Refused}
 use Rattle.amending.specs.Cases.{refusalOf, amendedOf, spotOf}
 use Rattle.amending.specs.Places.{oldValue, newValue, withValue}
 use Rattle.amending.specs.Amending.{Both, buffers, both, amendable, undoable, lastOf, leaving, onBoth, amend, undo}
-use Rattle.amending.specs.Between.{Ready, Looked, Exchanged}
+use Rattle.amending.specs.Between.{Ready, Exchanged}
 use Rattle.amending.proofs.Patched.{names-value}
 use Rattle.amending.proofs.Steps.{amend-places, it-stands, undo-empty, undo-standing, undo-no-place}
 
--- ---- the look at block and sheet
-
-module _ (y : Layout) (b s : List ℕ) (j : Judged) (e : judgedOf j ≡ judged b) where
-  pub block-refused : (r : refusal.Refusal) → j ≡ judge.Refused r → Looked y b s (refused (block.refusalOf r))
-  unfolding Looked onBoth
-  block-refused r f = λ does. rw (sym e ∙ ap judgedOf f)
-
-  module _ (k : ℕ) (f : j ≡ judge.Records k) (o : Opened) (g : openedOf o ≡ opened y s) where
-    pub sheet-refused : o ≡ Broken → Looked y b s (refused (answer 40 0 0 0))
-    unfolding Looked onBoth
-    sheet-refused h = λ does. rw (sym e ∙ ap judgedOf f, sym g ∙ ap openedOf h)
-
-    pub both-ready : ((i : ℕ) → Fits w8 (getD b i 0)) → ((i : ℕ) → Fits w8 (getD s i 0)) → (count : ℕ) → o ≡ Standing count → Looked y b s (passed count)
-    unfolding Looked
-    both-ready bytes entries count h =
-        let p = sheet-opened y s count (all-below 256 s (λ i. entries i .fits)) (sym g ∙ ap openedOf h) in
-        record { bytes = all-below 256 b (λ i. bytes i .fits); accepted = record { count = k; is = sym e ∙ ap judgedOf f }; holds = record { layout = p .0; count-is = sym (p .1) } }
-
--- what it found, for the call
-module _ (y : Layout) (b s : List ℕ) (a : Amended) (l : Looked y b s (amendedOf a)) where
+-- what the look at block and sheet has found
+module _ (y : Layout) (b s : List ℕ) (a : Amended) (e : amendedOf a ≡ onward (judged b) (λ _. opened y s)) where
   pub look-refused : (r : Refusal) → a ≡ amended.Refused r → (does : Both → Verdict Both) → buffers (refusalOf r) b s ≡ onBoth y does b s
-  unfolding Looked
-  look-refused r e = rw e at l
+  unfolding onBoth
+  look-refused r f does = by (judged b) (opened y s) (sym e ∙ ap amendedOf f)
+    where
+      by : (j o : Verdict ℕ) → onward j (λ _. o) ≡ refused (refusalOf r) → buffers (refusalOf r) b s ≡ leaving y b s (onward j (λ _. onward o (λ _. does (both (recordsOf b) (entriesOf y s)))))
+      by (refused x) o q = let z : refusalOf r ≡ x = cc in rw z
+      by (passed k) (refused x) q = let z : refusalOf r ≡ x = cc in rw z
+      by (passed k) (passed n) q = absurd (never-passed (sym q))
 
-  pub look-ready : (count : ℕ) → a ≡ amended.Standing count → Ready y b s count
-  unfolding Looked
-  look-ready count e = rw e at l
+  pub look-ready : ((i : ℕ) → Fits w8 (getD b i 0)) → ((i : ℕ) → Fits w8 (getD s i 0)) → (count : ℕ) → a ≡ amended.Standing count → Ready y b s count
+  look-ready bytes entries count f = by (judged b) refl (sym e ∙ ap amendedOf f)
+    where
+      by : (j : Verdict ℕ) → judged b ≡ j → onward j (λ _. opened y s) ≡ passed count → Ready y b s count
+      by (refused x) g q = absurd (never-passed q)
+      by (passed k) g q =
+          let p = sheet-opened y s count (all-below 256 s (λ i. entries i .fits)) q in
+          record { bytes = all-below 256 b (λ i. bytes i .fits); accepted = record { count = k; is = g }; holds = record { layout = p .0; count-is = sym (p .1) } }
 
 -- all is ready: what the call does decides
 module _ {y : Layout} {b s : List ℕ} {count : ℕ} (h : Ready y b s count) where

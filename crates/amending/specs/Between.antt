@@ -10,18 +10,12 @@ use Rattle.block.specs.Rules.{blockOf}
 use Rattle.sheet.specs.Sheets.{Layout, Entry}
 use Rattle.sheet.specs.Rules.{Holds}
 use Rattle.amending.specs.Places.{valuePlace, withValue}
-use Rattle.amending.specs.Amending.{Both, buffers, onBoth}
 
 -- what a call goes on with: an accepted block, and a sheet that keeps its layout, with `count` entries
 pub record Ready (y : Layout) (block sheet : List ℕ) (count : ℕ) : Type 0 where
   pub bytes : Below 256 block
   pub accepted : Accepted block
   pub holds : Holds y sheet count
-
--- what a look at both finds: "block, 40", which either call then gives; or all is ready
-unfoldable pub Looked : Layout → List ℕ → List ℕ → Verdict ℕ → Type 0
-Looked y block sheet (refused r) = (does : Both → Verdict Both) → buffers r block sheet ≡ onBoth y does block sheet
-Looked y block sheet (passed count) = Ready y block sheet count
 
 -- a refusal leaves the block; else the new value is put at the place that the entry names
 abbrev pub exchanged : List ℕ → Entry → ℕ → Verdict ℕ → List ℕ

@@ -8,17 +8,17 @@ use units::Words;
 ghost use mathlib.Core.Path.{_≡_};
 ghost use Prim.Native.Nat.{_+_, _≤_, _<_};
 ghost use lib.ListN.{length};
-ghost use Rattle.units.specs.Answers.{answered};
+ghost use Rattle.units.specs.Answers.{answered, onward};
 ghost use Rattle.words.specs.Words.{wordsOf, Below};
 ghost use Rattle.record.specs.Rules.{RecordOk};
-ghost use Rattle.block.specs.Judging.{Accepted};
+ghost use Rattle.block.specs.Judging.{judged, Accepted};
 ghost use Rattle.block.specs.Records.{recordsOf};
-ghost use Rattle.sheet.specs.Sheets.{version1};
+ghost use Rattle.sheet.specs.Sheets.{version1, opened};
 ghost use Rattle.sheet.specs.Cases.{entryOf};
 ghost use Rattle.amending.specs.Places.{valueIn, valuePlace, patched};
 ghost use Rattle.amending.specs.Amending as spec;
 ghost use Rattle.amending.specs.Amending.{buffers};
-ghost use Rattle.amending.specs.Between.{Ready, Looked, Exchanged};
+ghost use Rattle.amending.specs.Between.{Ready, Exchanged};
 ghost use Rattle.amending.specs.Cases.{refusalOf, amendedOf, spotOf};
 
 // Why an amendment or its undoing is refused.
@@ -104,16 +104,23 @@ fn exchange(block: &mut [u8], e: Amendment, old: u16, new: u16) -> Spot
     }
 }
 
-// Judges the block and opens the sheet: how many amendments stand.
+// Judges the block and the sheet: how many amendments stand.
 fn look(block: &[u8], sheet: &[u8]) -> Amended
-    ensures { λ r. ⌜ Looked version1 (now (block .entry)) (now (sheet .entry)) (amendedOf r) ⌝ }
+    ensures { λ r. ⌜ amendedOf r ≡ onward (judged (now (block .entry))) (λ _. opened version1 (now (sheet .entry))) ⌝ }
 {
     match block::judge(block) {
         Judged::Refused(r) => Amended::Refused(Refusal::Block(r)),
-        Judged::Records(_) => match sheet::open(sheet) {
-            Opened::Broken => Amended::Refused(Refusal::Broken),
-            Opened::Standing(count) => Amended::Standing(count),
-        },
+        Judged::Records(_) => look_at_sheet(sheet),
+    }
+}
+
+// Opens the sheet, once the block is judged.
+fn look_at_sheet(sheet: &[u8]) -> Amended
+    ensures { λ r. ⌜ amendedOf r ≡ opened version1 (now (sheet .entry)) ⌝ }
+{
+    match sheet::open(sheet) {
+        Opened::Broken => Amended::Refused(Refusal::Broken),
+        Opened::Standing(count) => Amended::Standing(count),
     }
 }
 

@@ -1,73 +1,52 @@
 -- Every spelling is read: the words on a line, and the lines still to come of a record.
 use mathlib.Core.Path.{_≡_, refl, sym, ap, _∙_}
-use mathlib.Core.Bool.{Bool, true, false, _||_}
+use mathlib.Core.Bool.{true}
 use mathlib.Core.Logic.{inl, inr}
 use mathlib.Core.List.{List, [], _∷_, _++_, append-assoc}
-use Prim.Native.Nat.{ℕ, zero, suc, _+_, _*_, _≤_, _<_}
+use Prim.Native.Nat.{ℕ, zero, suc, _+_, _*_, _≤_, _<_, min}
 use native.Mathlib.Nat.{add-zero, zero-add}
 use native.Mathlib.Omega.{arith}
-use borrow.Author.Tests.{le-ltb, le-leb, lt-ltb, ne-eqb}
-use lib.Dec.{ltb, eqb}
-use lib.ListN.{length, getD, take, drop, length-append, length-drop}
+use borrow.Author.Tests.{le-leb, leb-true, eq-eqb}
+use lib.ListN.{length, getD, take, drop, length-append, length-take, length-drop}
 use lib.Seq.{take-all}
-use Rattle.units.specs.Choice.{if_then_else_}
 use Rattle.units.specs.Answers.{Verdict, passed, refused, onward}
 use Rattle.words.specs.Words.{All}
+use Rattle.words.specs.Scans.{passing, within, plainIn}
+use Rattle.words.proofs.Scans.{scan-take, pass-all}
 use Rattle.words.proofs.Lists.{all-getD}
 use Rattle.field.specs.declared.Number.the-variants.{Bad}
 use Rattle.field.specs.Reading.{columns, readField}
-use Rattle.units.proofs.Choosing.{both-ways}
+use Rattle.units.proofs.Choosing.{by-test, both-ways}
 use Rattle.units.specs.Units.{Line}
-use Rattle.read_columns.specs.Columns.{badColumn, inkFrom, inkAfter, blankAfter, wordIn, number, numbers, blankField, zeroField, zeros}
+use Rattle.read_columns.specs.Columns.{plainLine, isBlank, blankTo, blankAfter, blankLine, wordIn, number, numbers, blankField, zeroField, zeros}
+use Rattle.read_columns.proofs.Columns.{right-to, columns-part}
 use Rattle.read_first_line.specs.FirstLine.{Shape, card, fields, gives, firstLine}
 use Rattle.read_line.specs.Lines.{rowFields, inState, readLine, readLines}
 use Rattle.read_text.specs.Spelled.{Printed, Readable, Blanks, Spells, SpellsAll, SpellsZero, LineSpells, LinesSpell, no-lines, a-line}
-use Rattle.read_text.proofs.Columns.{no-ink, ink-turn}
+use Rattle.read_text.proofs.Columns.{all-blank}
 
 -- ---- the columns of a line
 
--- row 20 finds nothing on a readable line
-no-bad : (k : ℕ) (l : Line) → All Printed l → k + length l ≤ 121 → badColumn k l ≡ 0
-unfolding badColumn
-no-bad k [] h w = refl
-no-bad k (b ∷ l) h w =
-    simp (le-ltb 120 k (omega arith), le-leb 32 b (h .0 .least), le-leb b 126 (h .0 .most)) (no-bad (suc k) l (h .1) (omega arith))
+-- row 20 accepts a readable line
+plain-back : (num : ℕ) (l : Line) → Readable l → plainLine num l ≡ passed tt
+unfolding plainLine
+plain-back num l r =
+    let plain = pass-all (within 32 126) Printed (λ b p. simp (le-leb 32 b (p .least), le-leb b 126 (p .most))) l (r .bytes) in
+    sym (right-to 20 num l (plainIn (take 120 l)) (rw (take-all 120 l (r .short)) (omega arith)))
 
--- no ink on a blank line
-blank-ink : (k : ℕ) (l : Line) → Blanks l → inkFrom k l ≡ 0
-unfolding inkFrom
-blank-ink k [] h = refl
-blank-ink k (b ∷ l) h = rw (h .0) (blank-ink (suc k) l (h .1))
+blank-all : (l : Line) → Blanks l → passing isBlank l ≡ length l
+blank-all = pass-all isBlank (λ b. b ≡ 32) (λ b. eq-eqb b 32)
 
 pub blank-back : (num : ℕ) (l : Line) (c : ℕ) → Blanks (drop c l) → blankAfter num l c ≡ passed tt
 unfolding blankAfter
-blank-back num l c h = rw (blank-ink (c + 1) (drop c l) h)
-
-ink-least : (k : ℕ) (l : Line) → 0 < inkFrom k l → k ≤ inkFrom k l
-unfolding inkFrom
-ink-least k [] h = absurd (omega arith)
-ink-least k (b ∷ l) h = by (eqb b 32) (ink-least (suc k) l) h
-  where
-    by : (t : Bool) → (0 < inkFrom (suc k) l → suc k ≤ inkFrom (suc k) l) → 0 < (if t then inkFrom (suc k) l else k) → k ≤ (if t then inkFrom (suc k) l else k)
-    by true ih p = omega (arith, ih p)
-    by false ih p = omega arith
-
--- the first ink is behind blank columns
-ink-behind : (n k : ℕ) (l : Line) (at : ℕ) → Blanks (columns n l at) → 0 < inkFrom k (drop at l) → k + n ≤ inkFrom k (drop at l)
-unfolding columns
-ink-behind zero k l at h p = omega (arith, ink-least k (drop at l) p)
-ink-behind (suc n) k l at h p =
-    let e : inkFrom k (drop at l) ≡ inkFrom (suc k) (drop (suc at) l) = ink-turn k l at ∙ rw (h .0) refl in
-    omega (arith, ink-behind n (suc k) l (suc at) (h .1) (omega arith))
+blank-back num l c h = sym (right-to 26 num l (blankTo c l) (omega (arith, blank-all (drop c l) h, length-drop c l)))
 
 -- a blank field is seen to be one
 blank-field : (l : Line) (k : ℕ) → Blanks (columns 6 l (6 * k)) → blankField l k ≡ true
-unfolding blankField
-blank-field l k h = by (inkAfter (6 * k) l) (ink-behind 6 (6 * k + 1) l (6 * k) h)
-  where
-    by : (c : ℕ) → (0 < c → 6 * k + 1 + 6 ≤ c) → (eqb c 0 || ltb (6 * k + 6) c) ≡ true
-    by zero p = refl
-    by (suc c) p = simp (ne-eqb (suc c) 0 (λ e. omega arith), lt-ltb (6 * k + 6) (suc c) (omega (arith, p (omega arith))))
+blank-field l k h =
+    let here = drop (6 * k) l in
+    let field = blank-all (take 6 here) (columns-part (λ b. b ≡ 32) 6 l (6 * k) h) in
+    le-leb (min (6 * k + 6) (length l)) (blankTo (6 * k) l) (omega (arith, scan-take isBlank 6 here, length-take 6 here, length-drop (6 * k) l))
 
 -- a line with a number field is not blank
 blank-bad : (l : Line) → Blanks l → readField (columns 6 l 0) ≡ Bad
@@ -79,7 +58,9 @@ blank-bad l h = rw (column 0, column 1, column 2, column 3, column 4, column 5) 
 
 pub first-line : (num held : ℕ) (l : Line) (w : ℕ) → Spells l 0 w → inState num held [] l ≡ firstLine num held l
 unfolding inState
-first-line num held l w h = simp (ne-eqb (inkFrom 1 l) 0 (λ e. never (blank-bad l (no-ink 1 l (omega arith) e))))
+first-line num held l w h =
+    by-test (λ v. v ≡ firstLine num held l) (blankLine l) (gives [] []) (firstLine num held l)
+    (λ t. absurd (never (blank-bad l (all-blank l (omega (arith, leb-true (length l) (blankTo 0 l) t)))))) (λ _. refl)
   where
     never : readField (columns 6 l 0) ≡ Bad → ⊥
     never b = let z : _≡_ {A = ℕ} 0 1 = cc in omega arith
@@ -135,11 +116,11 @@ pub line-back : (num held : ℕ) (rest : List Shape) (l : Line) (ls : List Line)
     → Readable l → inState num held rest l ≡ gives ws more
     → readLines num held rest (l ∷ ls) ≡ ahead ws (readLines (suc num) (held + length ws) more ls)
 unfolding readLines readLine
-line-back num held rest l ls ws more r e = simp (no-bad 1 l (r .bytes) (omega (arith, r .short)), e)
+line-back num held rest l ls ws more r e = simp (plain-back num l r, e)
 
 blank-line-back : (num held : ℕ) (l : Line) → Blanks l → inState num held [] l ≡ gives [] []
 unfolding inState
-blank-line-back num held l h = simp (blank-ink 1 l h)
+blank-line-back num held l h = simp (le-leb (length l) (blankTo 0 l) (omega (arith, blank-all l h)))
 
 -- a blank line between records
 pub skip-back : (num held : ℕ) (l : Line) (ls : List Line) → Readable l → Blanks l → readLines num held [] (l ∷ ls) ≡ readLines (suc num) held [] ls

@@ -201,7 +201,7 @@ fn finish(s: Scan) -> Number
     }
 }
 
-// Where the line ends before its sixth column, that is blank. Apart from `read_field`, since the compiler then makes more of the loop.
+// Where the line ends before the sixth column, that column is blank. Apart from `read_field`: in one function with it the loop takes more instructions.
 fn scan_field(line: &[u8], at: usize) -> Number
     ensures { λ r. ⌜ r ≡ readField (columns 6 (now (line .entry)) at) ⌝ }
 {

@@ -1,4 +1,3 @@
 pub mod Columns
-pub mod Scan
 pub mod Row
 pub mod Zeros

@@ -1,19 +1,12 @@
 -- Fields that must be blank or 0, one after the other.
 use mathlib.Core.Path.{_≡_, sym}
-use mathlib.Core.Bool.{_||_}
 use mathlib.Core.List.{List}
-use Prim.Native.Nat.{ℕ, suc, _+_, _-_, _*_, _<_}
+use Prim.Native.Nat.{ℕ, suc, _+_, _-_, _<_}
 use native.Mathlib.Numerals.{add-one}
 use native.Mathlib.Omega.{arith}
-use lib.Dec.{eqb, ltb}
 use Rattle.units.specs.declared.Answer.{Answer}
 use Rattle.units.specs.Answers.{passed, refused}
-use Rattle.read_columns.specs.Columns.{inkAfter, blankField, zeroField, zeros}
-
--- the first column that is not blank behind so many columns tells whether the field is
-pub blank-is : (l : List ℕ) (k at c : ℕ) → at ≡ 6 * k → c ≡ inkAfter at l → blankField l k ≡ (eqb c 0 || ltb (at + 6) c)
-unfolding blankField
-blank-is l k at c e ink = rw (sym e, sym ink)
+use Rattle.read_columns.specs.Columns.{zeroField, zeros}
 
 module _ (num : ℕ) (l : List ℕ) (k end : ℕ) where
   pub zeros-done : end - k ≡ 0 → zeros num l k (end - k) ≡ passed tt

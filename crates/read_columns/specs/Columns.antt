@@ -1,34 +1,44 @@
 -- Document 01, "Read form" and rows 20, 22 and 26: what stands in the columns of a line. `num` is the line's number in the text.
-use Prim.Native.Nat.{ℕ, zero, suc, _+_}
+use Prim.Native.Nat.{ℕ, zero, suc, _+_, min}
 use mathlib.Core.List.{List, [], _∷_}
-use mathlib.Core.Bool.{Bool, not, _||_}
-use lib.Dec.{ltb, eqb}
-use lib.ListN.{drop}
+use mathlib.Core.Bool.{Bool}
+use lib.Dec.{ltb, leb, eqb}
+use lib.ListN.{length, take, drop}
 use Rattle.units.specs.Choice.{if_then_else_}
 use Rattle.units.specs.Units.{columnsOfFields, Line}
 use Rattle.units.specs.Answers.{answer, Verdict, passed, refused, onward}
-use Rattle.words.specs.Scans.{within}
+use Rattle.words.specs.Scans.{passing, plainIn}
 use Rattle.field.specs.Reading.{readField, columns}
 use Rattle.field.specs.declared.Number.{Number}
 use Rattle.field.specs.declared.Number.the-variants.{Word, Bad}
 
--- row 20: of the columns from k on, the first that is past 120 or has a byte other than 32 to 126; 0 where there is none
-unfoldable pub badColumn : ℕ → Line → ℕ
-badColumn k [] = 0
-badColumn k (b ∷ l) = if ltb 120 k || not (within 32 126 b) then k else badColumn (suc k) l
+-- rows 20 and 26: the first c columns of line num are right, and the next, where the line has one, is the "first such column"
+unfoldable pub rightTo : ℕ → ℕ → Line → ℕ → Verdict (Unit {0})
+rightTo n num l c = if ltb c (length l) then refused (answer n num (c + 1) 0) else passed tt
 
--- of the columns from k on, the first that is not blank; 0 where there is none
-unfoldable pub inkFrom : ℕ → Line → ℕ
-inkFrom k [] = 0
-inkFrom k (b ∷ l) = if eqb b 32 then inkFrom (suc k) l else k
+-- "a line has at most 120 bytes before its end", "Other bytes are 32 to 126": how many columns stand before the first that is past 120 or has another byte
+abbrev pub plainTo : Line → ℕ
+plainTo l = plainIn (take 120 l)
 
--- the same, of the columns after the first c
-abbrev pub inkAfter : ℕ → Line → ℕ
-inkAfter c l = inkFrom (c + 1) (drop c l)
+-- row 20: "line over 120, or bad byte"
+unfoldable pub plainLine : ℕ → Line → Verdict (Unit {0})
+plainLine num l = rightTo 20 num l (plainTo l)
+
+-- a blank column
+abbrev pub isBlank : ℕ → Bool
+isBlank b = eqb b 32
+
+-- how many columns stand before the first that is not blank, of those after the first c
+abbrev pub blankTo : ℕ → Line → ℕ
+blankTo c l = c + passing isBlank (drop c l)
 
 -- row 26: the columns after the first c must be blank
 unfoldable pub blankAfter : ℕ → Line → ℕ → Verdict (Unit {0})
-blankAfter num l c = if eqb (inkAfter c l) 0 then passed tt else refused (answer 26 num (inkAfter c l) 0)
+blankAfter num l c = rightTo 26 num l (blankTo c l)
+
+-- a blank line: its blank columns reach its end
+abbrev pub blankLine : Line → Bool
+blankLine l = leb (length l) (blankTo 0 l)
 
 -- the first column of the field with k fields before it
 abbrev pub columnOf : ℕ → ℕ
@@ -48,9 +58,9 @@ unfoldable pub numbers : ℕ → Line → ℕ → ℕ → Verdict (List ℕ)
 numbers num l k zero = passed []
 numbers num l k (suc m) = onward (number num l k) (λ w. onward (numbers num l (suc k) m) (λ ws. passed (w ∷ ws)))
 
--- that field is blank: the first column after those k fields that is not blank is none of its six
-unfoldable pub blankField : Line → ℕ → Bool
-blankField l k = eqb (inkAfter (columnsOfFields k) l) 0 || ltb (columnsOfFields k + 6) (inkAfter (columnsOfFields k) l)
+-- that field is blank: the blank columns behind those k fields reach its last one, or the line's end
+abbrev pub blankField : Line → ℕ → Bool
+blankField l k = leb (min (columnsOfFields k + 6) (length l)) (blankTo (columnsOfFields k) l)
 
 -- "there blank means 0, and a value other than 0 is refused"
 unfoldable pub zeroField : ℕ → Line → ℕ → Verdict (Unit {0})

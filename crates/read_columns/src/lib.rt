@@ -6,11 +6,11 @@ use units::Lines;
 use units::Words;
 ghost use mathlib.Core.Path.{_≡_};
 ghost use mathlib.Core.List.{_++_};
-ghost use Prim.Native.Nat.{_+_, _^_, _≤_, _<_};
+ghost use Prim.Native.Nat.{_+_, _^_, _≤_, _<_, min};
 ghost use lib.ListN.{length, take};
 ghost use Rattle.units.specs.Answers.{answer, passed, onward, Packs};
 ghost use Rattle.words.specs.Scans.{plainIn};
-ghost use Rattle.read_columns.specs.Columns.{badColumn, inkAfter, blankAfter, blankField, columnOf, numbers, zeroField, zeros};
+ghost use Rattle.read_columns.specs.Columns.{plainTo, blankTo, blankAfter, blankLine, columnOf, numbers, blankField, zeroField, zeros};
 ghost use Rattle.read_columns.specs.Cases.{flawOf, checkedOf};
 
 // Why a text is refused: the line and, where it is not always the same, the column, both counted from 1.
@@ -33,50 +33,52 @@ pub enum Checked {
     Flawed(Flaw),
 }
 
-// The first column that is past 120 or holds a byte other than 32 to 126, of a line that begins with so many that are; 0 where there is none.
-pub fn bad_column(line: &[u8], plain: Bytes) -> Bytes
+// The columns before the first that is past 120 or not plain, of a line that begins with so many plain bytes.
+pub fn plain_to(line: &[u8], plain: Bytes) -> Bytes
     requires { ⌜ plain .0 ≡ plainIn (now line) ⌝ }
-    ensures { λ r. ⌜ r .0 ≡ badColumn 1 (now (line .entry)) ⌝ }
+    ensures { λ r. ⌜ r .0 ≡ plainTo (now (line .entry)) ⌝ }
 {
-    let size = line.len();
-    let good = plain.0;
-    if 120 <= good {
-        if 120 < size {
-            return Bytes(121);
-        }
-        return Bytes(0);
-    }
-    if good < size {
-        let column = good + 1;
-        return Bytes(column);
-    }
-    Bytes(0)
+    Bytes(least(120, plain.0))
 }
 
-// Of the columns after the first `from`, the first that is not blank; 0 where there is none.
-pub fn ink_after(line: &[u8], from: Bytes) -> Bytes
-    ensures { λ r. ⌜ r .0 ≡ inkAfter (from .0) (now (line .entry)) ⌝ }
+// The lesser of two numbers.
+fn least(a: usize, b: usize) -> usize
+    ensures { λ r. ⌜ r ≡ min a b ⌝ }
+{
+    if a < b { a } else { b }
+}
+
+// The columns before the first that is not blank, of those after the first `from`.
+fn blank_to(line: &[u8], from: Bytes) -> usize
+    ensures { λ r. ⌜ r ≡ blankTo (from .0) (now (line .entry)) ⌝ }
 {
     let mut i = from.0;
     while i < line.len() {
-        let column = i + 1;
         if line[i] != b' ' {
-            return Bytes(column);
+            return i;
         }
-        i = column;
+        i += 1;
     }
-    Bytes(0)
+    i
 }
 
 // The columns after the first `from` must be blank.
 pub fn blank_after(line: &[u8], num: Lines, from: Bytes) -> Checked
     ensures { λ r. ⌜ checkedOf tt r ≡ blankAfter (num .0) (now (line .entry)) (from .0) ⌝ }
 {
-    let column = ink_after(line, from);
-    if column.0 == 0 {
-        return Checked::Good;
+    let right = blank_to(line, from);
+    if right < line.len() {
+        let column = right + 1;
+        return Checked::Flawed(Flaw::NotBlank(num, Bytes(column)));
     }
-    Checked::Flawed(Flaw::NotBlank(num, column))
+    Checked::Good
+}
+
+// A blank line.
+pub fn blank_line(line: &[u8]) -> bool
+    ensures { λ r. ⌜ r ≡ blankLine (now (line .entry)) ⌝ }
+{
+    line.len() <= blank_to(line, Bytes(0))
 }
 
 // The first column of the field with k fields before it.
@@ -113,8 +115,7 @@ fn blank_field(line: &[u8], k: Words) -> bool
 {
     let before = units::columns_of_fields(k);
     let last = before.0 + 6;
-    let column = ink_after(line, before).0;
-    column == 0 || last < column
+    least(last, line.len()) <= blank_to(line, before)
 }
 
 // A field that must be 0, or blank, which means 0.

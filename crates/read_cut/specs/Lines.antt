@@ -16,8 +16,7 @@ onto b (l ∷ ls) = (b ∷ l) ∷ ls
 
 -- how many bytes the LF or CR LF takes that a text begins with; 0 where it begins with none
 unfoldable pub endLength : List ℕ → ℕ
-endLength [] = 0
-endLength (b ∷ t) = if eqb b 10 then 1 else if eqb b 13 && eqb (getD t 0 0) 10 then 2 else 0
+endLength t = if eqb (getD t 0 0) 10 then 1 else if eqb (getD t 0 0) 13 && eqb (getD t 1 0) 10 then 2 else 0
 
 -- "It ends with LF, CR LF, or the end of the text if it has a byte": an end of one byte ends a line, and the first of two is passed over
 unfoldable pub linesIn : List ℕ → List (List ℕ)
@@ -27,15 +26,11 @@ linesIn (b ∷ t) =
     else if eqb (endLength (b ∷ t)) 1 then [] ∷ linesIn t
     else linesIn t
 
--- the first line from place `at` on is the bytes before `end`, its end stands there, and the other lines begin at `next`
-pub record LineAt (t : List ℕ) (at end next : ℕ) : Type 0 where
-  pub cut : linesIn (drop at t) ≡ take (end - at) (drop at t) ∷ linesIn (drop next t)
-  pub ends : next ≡ end + endLength (drop end t)
-  pub within : at ≤ end
-  pub onward : at < next
-  pub inside : next ≤ length t
-
--- such a cut, with the plain bytes that the line begins with
+-- the first line from place `at` on is the bytes before `end`, and it begins with `plain` plain bytes; its end stands there, and the other lines begin at `next`
 pub record CutAt (t : List ℕ) (at : ℕ) (c : Cut) : Type 0 where
-  pub line : LineAt t at (c .end .0) (c .next .0)
+  pub cut : linesIn (drop at t) ≡ take (c .end .0 - at) (drop at t) ∷ linesIn (drop (c .next .0) t)
   pub plain : c .plain .0 ≡ plainIn (take (c .end .0 - at) (drop at t))
+  pub ends : c .next .0 ≡ c .end .0 + endLength (drop (c .end .0) t)
+  pub within : at ≤ c .end .0
+  pub onward : at < c .next .0
+  pub inside : c .next .0 ≤ length t

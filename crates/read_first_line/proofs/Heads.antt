@@ -38,12 +38,6 @@ put-three held block x y ws =
     let f : (held + 1 + 1 + 1) * 2 ≡ suc (suc (suc (suc ((held + 1) * 2)))) = omega arith in
     rw (f, e)
 
--- zeros are zero bytes
-pub zero-bytes : (n : ℕ) → bytesOf (replicate n 0) ≡ replicate (n * 2) 0
-unfolding bytesOf
-zero-bytes zero = refl
-zero-bytes (suc n) = let e : suc n * 2 ≡ suc (suc (n * 2)) = omega arith in rw (e, zero-bytes n)
-
 module _ (row : List ℕ) (used : ℕ) (h : used ≤ length row) where
   -- the words of a Catalogue's or a Header's first line are 40
   pub forty : (total kind : ℕ) → 2 ≤ used → used ≤ 20 → length (total ∷ (kind ∷ slice 2 used row) ++ replicate (40 - used) 0) ≡ 40

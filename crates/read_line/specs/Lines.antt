@@ -1,14 +1,14 @@
 -- Document 01, "Read form" and "Order for text": reading a text over the list of its lines.
 use Prim.Native.Nat.{ℕ, suc, _+_}
 use mathlib.Core.List.{List, [], _∷_, _++_}
-use lib.Dec.{ltb, eqb}
+use lib.Dec.{eqb}
 use lib.ListN.{length}
 use Rattle.units.specs.Choice.{if_then_else_}
 use Rattle.units.specs.Units.{columnsOfFields, Line}
 use Rattle.units.specs.Answers.{answer, Verdict, passed, refused, onward}
 use Rattle.words.specs.Words.{wordsOf}
 use Rattle.field.specs.Reading.{columns}
-use Rattle.read_columns.specs.Columns.{badColumn, inkFrom, blankAfter, numbers}
+use Rattle.read_columns.specs.Columns.{plainLine, blankAfter, blankLine, numbers}
 use Rattle.read_first_line.specs.FirstLine.{Shape, card, fields, Read, gives, firstLine}
 
 -- of a later line, after 25 and 20: "fields by 22, blank columns by 26"
@@ -19,13 +19,11 @@ rowFields num l n = onward (numbers num l 0 n) (λ ws. onward (blankAfter num l 
 unfoldable pub inState : ℕ → ℕ → List Shape → Line → Verdict Read
 inState num held (card ∷ rest) l = onward (blankAfter num l 80) (λ _. gives (wordsOf (columns 80 l 0)) rest)
 inState num held (fields n ∷ rest) l = onward (rowFields num l n) (λ ws. gives ws rest)
-inState num held [] l = if eqb (inkFrom 1 l) 0 then gives [] [] else firstLine num held l
+inState num held [] l = if blankLine l then gives [] [] else firstLine num held l
 
 -- a line, where `rest` is what is still to come: row 20 is tested first on every line
 unfoldable pub readLine : ℕ → ℕ → List Shape → Line → Verdict Read
-readLine num held rest l =
-    if ltb 0 (badColumn 1 l) then refused (answer 20 num (badColumn 1 l) 0)
-    else inState num held rest l
+readLine num held rest l = onward (plainLine num l) (λ _. inState num held rest l)
 
 -- row 25: "text ends inside a record: last line + 1"; "At the end 21": a record has 16 words or more, so where there are none there was no record
 unfoldable pub atEnd : ℕ → ℕ → List Shape → Verdict (List ℕ)

@@ -197,10 +197,32 @@ fn open_line(
     requires { ⌜ (toCome p ≡ []) × (length (now row) ≡ 20) × (held .0 ≤ 7998) ⌝ }
     ensures { λ r. ⌜ Stepped (held .0) (now (block .entry)) (inState (num .0) (held .0) [] (now (line .entry))) (now (block .exit)) r ⌝ }
 {
-    if read_columns::ink_after(line, Bytes(0)).0 == 0 {
+    if read_columns::blank_line(line) {
         return Step::Next(p, held);
     }
     read_first_line::first_line(num, held, line, row, block)
+}
+
+// Any line that row 20 accepts.
+fn in_state(
+    plan: Plan,
+    num: Lines,
+    held: Words,
+    line: &[u8],
+    row: &mut [u16],
+    block: &mut [u8],
+) -> Step
+    requires { ⌜ (length (now row) ≡ 20) × (held .0 ≤ 7998) ⌝ }
+    ensures { λ r. ⌜ Stepped (held .0) (now (block .entry)) (inState (num .0) (held .0) (toCome plan) (now (line .entry))) (now (block .exit)) r ⌝ }
+{
+    let p = settled(plan);
+    if 0 < p.cards.0 {
+        return card_line(p, num, held, line, block);
+    }
+    if 0 < p.left.0 {
+        return fields_line(p, num, held, line, row, block);
+    }
+    open_line(p, num, held, line, row, block)
 }
 
 // Any line, which begins with so many plain bytes.
@@ -216,16 +238,10 @@ pub fn read_line(
     requires { ⌜ (length (now row) ≡ 20) × (held .0 ≤ 7998) × (plain .0 ≡ plainIn (now line)) ⌝ }
     ensures { λ r. ⌜ Stepped (held .0) (now (block .entry)) (readLine (num .0) (held .0) (toCome plan) (now (line .entry))) (now (block .exit)) r ⌝ }
 {
-    let column = read_columns::bad_column(line, plain);
-    if 0 < column.0 {
-        return Step::Refused(Flaw::Byte(num, column));
+    let right = read_columns::plain_to(line, plain).0;
+    if right < line.len() {
+        let column = right + 1;
+        return Step::Refused(Flaw::Byte(num, Bytes(column)));
     }
-    let p = settled(plan);
-    if 0 < p.cards.0 {
-        return card_line(p, num, held, line, block);
-    }
-    if 0 < p.left.0 {
-        return fields_line(p, num, held, line, row, block);
-    }
-    open_line(p, num, held, line, row, block)
+    in_state(plan, num, held, line, row, block)
 }

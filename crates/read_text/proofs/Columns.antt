@@ -1,18 +1,20 @@
 -- What the columns of a line tell: its bytes, its number fields, its blanks.
 use mathlib.Core.Path.{_≡_, refl, ap, _∙_}
-use mathlib.Core.Bool.{Bool, true, false, not, _||_}
+use mathlib.Core.Bool.{Bool, true, false}
 use mathlib.Core.Logic.{inl, inr}
 use mathlib.Core.List.{List, [], _∷_}
-use Prim.Native.Nat.{ℕ, zero, suc, _+_, _-_, _*_, _/_, _%_, _^_, _≤_, _<_}
+use Prim.Native.Nat.{ℕ, zero, suc, _+_, _-_, _*_, _/_, _%_, _^_, _≤_, _<_, min}
 use native.Mathlib.Omega.{arith}
-use borrow.Author.Tests.{ltb-true, ltb-false, leb-true, eqb-true, eqb-false, ne-eqb, not-false}
+use borrow.Author.Tests.{ltb-false, leb-true, eqb-true, eqb-false}
 use lib.Dec.{ltb, leb, eqb}
-use lib.ListN.{length, getD, drop, length-drop}
-use Rattle.units.specs.Choice.{if_then_else_}
+use lib.ListN.{length, take, drop, length-take, length-drop}
+use lib.Seq.{take-all}
 use Rattle.units.specs.Answers.{answer, passed, refused}
-use Rattle.units.proofs.Verdicts.{or-off, and-on}
+use Rattle.units.proofs.Verdicts.{and-on}
 use Rattle.words.specs.Words.{wordsOf, All, Below}
-use Rattle.words.specs.Scans.{within}
+use Rattle.words.specs.Scans.{passing, within, plainIn}
+use Rattle.words.proofs.Scans.{scan-take, scan-le, all-pass}
+use Rattle.read_columns.proofs.Columns.{part-columns}
 use Rattle.record.specs.Rules.{CardWord}
 use Rattle.field.specs.declared.Number.{Number}
 use Rattle.field.specs.declared.Number.the-variants.{Word, Bad}
@@ -20,43 +22,36 @@ use Rattle.field.specs.declared.Scan.{Scan}
 use Rattle.field.specs.declared.Scan.the-variants.{Blank, Sign, Digits, Spoiled}
 use Rattle.field.specs.Reading.{finishOf, scanOf, readField, columns}
 use Rattle.units.specs.Units.{Line}
-use Rattle.read_columns.specs.Columns.{badColumn, inkFrom, inkAfter, blankAfter, columnOf, wordIn, number, numbers, blankField, zeroField, zeros}
+use Rattle.read_columns.specs.Columns.{rightTo, plainLine, isBlank, blankTo, blankAfter, columnOf, wordIn, number, numbers, blankField, zeroField, zeros}
 use Rattle.read_text.specs.Spelled.{Printed, Readable, Blanks, Spells, SpellsAll, SpellsZero}
 use Rattle.units.proofs.Told.{Known, then-known, known-as}
 use Rattle.read_text.proofs.Told.{told}
 use Rattle.read_text.specs.Cases.{TextRow}
 use Rattle.units.proofs.Choosing.{by-test}
 
--- ---- row 20
+-- ---- columns that must be right
 
-pub bad-most : (k : ℕ) (l : Line) → k ≤ 121 → badColumn k l ≤ 121
-unfolding badColumn
-bad-most k [] h = omega arith
-bad-most k (b ∷ l) h =
-    by-test (λ c. c ≤ 121) (ltb 120 k || not (within 32 126 b)) k (badColumn (suc k) l) (λ _. h)
-    (λ t. bad-most (suc k) l (omega (arith, ltb-false 120 k (or-off (ltb 120 k) _ t .0))))
+-- to the line's end, or the next one is told
+right-known : (n num : ℕ) (l : Line) (c : ℕ) → TextRow n → num < 2 ^ 24 → c < 65535 → Known TextRow (λ _. length l ≤ c) (rightTo n num l c)
+unfolding rightTo
+right-known n num l c row hn h =
+    by-test (Known TextRow (λ _. length l ≤ c)) (ltb c (length l)) (refused (answer n num (c + 1) 0)) (passed tt) (λ _. told n num (c + 1) row hn (omega arith)) (ltb-false c (length l))
 
+-- row 20
 printed : (b : ℕ) → within 32 126 b ≡ true → Printed b
 printed b e = let a = and-on (leb 32 b) _ e in record { least = leb-true 32 b (a .0); most = leb-true b 126 (a .1) }
 
--- from column k on
-record CleanFrom (k : ℕ) (l : Line) : Type 0 where
-  fits : k + length l ≤ 121
-  bytes : All Printed l
+readable : (l : Line) → length l ≤ plainIn (take 120 l) → Readable l
+readable l h =
+    let short : length l ≤ 120 = omega (arith, scan-le (within 32 126) (take 120 l), length-take 120 l) in
+    record { short = short; bytes = all-pass (within 32 126) Printed printed l (rw (take-all 120 l short) at h) }
 
-clean-from : (k : ℕ) (l : Line) → 1 ≤ k → k ≤ 121 → badColumn k l ≡ 0 → CleanFrom k l
-unfolding badColumn
-clean-from k [] least h e = record { fits = omega arith; bytes = tt }
-clean-from k (b ∷ l) least h e =
-    by-test (λ c. c ≡ 0 → CleanFrom k (b ∷ l)) (ltb 120 k || not (within 32 126 b)) k (badColumn (suc k) l) (λ _ z. absurd (omega arith))
-    (λ t z. let o = or-off (ltb 120 k) _ t in
-    let c = clean-from (suc k) l (omega arith) (omega (arith, ltb-false 120 k (o .0))) z in
-    record { fits = omega (arith, c .fits); bytes = (printed b (not-false _ (o .1)), c .bytes) })
-    e
-
--- a line that row 20 passes
-pub clean : (l : Line) → badColumn 1 l ≡ 0 → Readable l
-clean l e = let c = clean-from 1 l (omega arith) (omega arith) e in record { short = omega arith; bytes = c .bytes }
+pub plain-known : (num : ℕ) (l : Line) → num < 2 ^ 24 → Known TextRow (λ _. Readable l) (plainLine num l)
+unfolding plainLine
+plain-known num l hn =
+    known-as TextRow (λ _. length l ≤ plainIn (take 120 l)) (λ _. Readable l) (rightTo 20 num l (plainIn (take 120 l)))
+    (right-known 20 num l (plainIn (take 120 l)) (omega arith) hn (omega (arith, scan-le (within 32 126) (take 120 l), length-take 120 l)))
+    (λ _. readable l)
 
 -- ---- the words of a card
 
@@ -100,43 +95,15 @@ words-below l k (w ∷ ws) h = (rw (h .0) at (read-fits (columns 6 l (6 * k))), 
 
 -- ---- blanks
 
--- no ink is found: all is blank
-pub no-ink : (k : ℕ) (l : Line) → 0 < k → inkFrom k l ≡ 0 → Blanks l
-unfolding inkFrom
-no-ink k [] h e = tt
-no-ink k (b ∷ l) h e =
-    by-test (λ c. c ≡ 0 → Blanks (b ∷ l)) (eqb b 32) (inkFrom (suc k) l) k (λ t z. (eqb-true b 32 t, no-ink (suc k) l (omega arith) z)) (λ _ z. absurd (omega arith)) e
-
--- one column more
-pub ink-turn : (k : ℕ) (l : Line) (at : ℕ) → inkFrom k (drop at l) ≡ (if eqb (getD l at 32) 32 then inkFrom (suc k) (drop (suc at) l) else k)
-unfolding inkFrom
-ink-turn k [] zero = refl
-ink-turn k [] (suc at) = refl
-ink-turn k (b ∷ l) zero = refl
-ink-turn k (b ∷ l) (suc at) = ink-turn k l at
-
--- n columns are blank where the first ink is not among them
-blank-columns : (n k : ℕ) (l : Line) (at : ℕ) → 0 < k → (0 < inkFrom k (drop at l) → k + n ≤ inkFrom k (drop at l)) → Blanks (columns n l at)
-unfolding columns
-blank-columns zero k l at h c = tt
-blank-columns (suc n) k l at h c =
-    by-test (λ i. (0 < i → k + suc n ≤ i) → Blanks (getD l at 32 ∷ columns n l (suc at))) (eqb (getD l at 32) 32) (inkFrom (suc k) (drop (suc at) l)) k
-    (λ t g. (eqb-true (getD l at 32) 32 t, blank-columns n (suc k) l (suc at) (omega arith) (λ p. omega (arith, g p))))
-    (λ _ g. absurd (omega (arith, g h)))
-    (rw (ink-turn k l at) at c)
+pub all-blank : (l : Line) → length l ≤ passing isBlank l → Blanks l
+all-blank = all-pass isBlank (λ b. b ≡ 32) (λ b. eqb-true b 32)
 
 blank-field : (l : Line) (k : ℕ) → blankField l k ≡ true → Blanks (columns 6 l (6 * k))
-unfolding blankField
-blank-field l k e = blank-columns 6 (6 * k + 1) l (6 * k) (omega arith) (behind (inkAfter (6 * k) l) e)
-  where
-    behind : (c : ℕ) → (eqb c 0 || ltb (6 * k + 6) c) ≡ true → 0 < c → 6 * k + 1 + 6 ≤ c
-    behind c t p = omega (arith, ltb-true (6 * k + 6) c (simp (ne-eqb c 0 (λ z. omega arith)) at t))
-
--- the first column that is not blank is not past the line's end
-ink-most : (k : ℕ) (l : Line) → inkFrom k l ≤ k + length l
-unfolding inkFrom
-ink-most k [] = omega arith
-ink-most k (b ∷ l) = by-test (λ c. c ≤ k + length (b ∷ l)) (eqb b 32) (inkFrom (suc k) l) k (λ _. omega (arith, ink-most (suc k) l)) (λ _. omega arith)
+blank-field l k e =
+    let here = drop (6 * k) l in
+    let reach = leb-true (min (6 * k + 6) (length l)) (blankTo (6 * k) l) e in
+    part-columns (λ b. b ≡ 32) 6 l (6 * k) refl
+    (all-blank (take 6 here) (omega (arith, scan-take isBlank 6 here, length-take 6 here, length-drop (6 * k) l)))
 
 -- line number num, of which no field past the 8,000th is asked for
 module _ (num : ℕ) (hn : num < 2 ^ 24) (l : Line) where
@@ -185,6 +152,6 @@ module _ (num : ℕ) (hn : num < 2 ^ 24) (l : Line) where
   pub blank-known : (c : ℕ) → Readable l → c ≤ 48000 → Known TextRow (λ _. Blanks (drop c l)) (blankAfter num l c)
   unfolding blankAfter
   blank-known c e h =
-      by-test (Known TextRow (λ _. Blanks (drop c l))) (eqb (inkAfter c l) 0) (passed tt) (refused (answer 26 num (inkAfter c l) 0))
-      (λ t. no-ink (c + 1) (drop c l) (omega arith) (eqb-true (inkAfter c l) 0 t))
-      (λ _. told 26 num (inkAfter c l) (omega arith) hn (omega (arith, ink-most (c + 1) (drop c l), length-drop c l, e .short)))
+      known-as TextRow (λ _. length l ≤ blankTo c l) (λ _. Blanks (drop c l)) (rightTo 26 num l (blankTo c l))
+      (right-known 26 num l (blankTo c l) (omega arith) hn (omega (arith, scan-le isBlank (drop c l), length-drop c l, e .short)))
+      (λ _ r. all-blank (drop c l) (omega (arith, length-drop c l)))

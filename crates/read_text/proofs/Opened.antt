@@ -5,7 +5,7 @@ use mathlib.Core.List.{List, [], _∷_, _++_, map}
 use Prim.Native.Nat.{ℕ, zero, suc, _+_, _-_, _*_, _^_, _≤_, _<_, min}
 use native.Mathlib.Nat.{add-zero}
 use native.Mathlib.Omega.{arith}
-use borrow.Author.Tests.{ltb-true, ltb-false, eqb-true, not-false}
+use borrow.Author.Tests.{ltb-true, ltb-false, eqb-true, not-false, leb-true}
 use lib.Dec.{ltb, eqb}
 use lib.ListN.{length, getD, drop, replicate, length-append, length-drop, length-replicate, List·getD-append}
 use Rattle.units.specs.Answers.{answer, passed, refused}
@@ -18,7 +18,7 @@ use Rattle.record.proofs.FourCounts.{range-ok, counts-append}
 use Rattle.line_plan.specs.Plan.{plan, dataPlan}
 use Rattle.units.specs.Units.{Line}
 use Rattle.line_plan.proofs.Plans.{fieldsIn, part-turn, fieldsIn-plan}
-use Rattle.read_columns.specs.Columns.{badColumn, inkFrom, blankAfter, columnOf, numbers, zeros}
+use Rattle.read_columns.specs.Columns.{plainLine, blankAfter, blankLine, columnOf, numbers, zeros}
 use Rattle.read_line.proofs.Later.{card-size}
 use Rattle.read_first_line.specs.FirstLine.{Shape, card, fields, Read, gives, Head, cards, counts, countsIn, catalogueFields, headerFields, countFields, prologueFields, dataFields, kindFields, firstFields, cardsRoom, dataRoom, headLine, firstLine}
 use Rattle.read_line.specs.Lines.{rowFields, inState, readLine}
@@ -27,7 +27,7 @@ use Rattle.units.proofs.Told.{Known, then-known, known-as}
 use Rattle.read_text.proofs.Told.{told}
 use Rattle.read_text.specs.Cases.{TextRow}
 use Rattle.units.proofs.Choosing.{by-test}
-use Rattle.read_text.proofs.Columns.{bad-most, clean, no-ink, WordsRead, numbers-known, zeros-known, blank-known}
+use Rattle.read_text.proofs.Columns.{plain-known, all-blank, WordsRead, numbers-known, zeros-known, blank-known}
 
 -- ---- the lines to come
 
@@ -304,13 +304,11 @@ module _ (num : ℕ) (hn : num < 2 ^ 24) where
     state-known (fields n ∷ rest) room e =
         then-known TextRow (LineSpells (fields n) l) (Given held (fields n ∷ rest) l) (rowFields num l n) _ (row-known e n (omega arith)) (λ ws r. (refl, r))
     state-known [] room e =
-        by-test (Known TextRow (Between held l)) (eqb (inkFrom 1 l) 0) (gives [] []) (firstLine num held l) (λ t. skipped (no-ink 1 l (omega arith) (eqb-true (inkFrom 1 l) 0 t)) refl refl)
+        by-test (Known TextRow (Between held l)) (blankLine l) (gives [] []) (firstLine num held l) (λ t. skipped (all-blank l (omega (arith, leb-true (length l) _ t))) refl refl)
         (λ _. known-as TextRow (Opens held l) (Between held l) (firstLine num held l) (first-known e) (λ s o. opens o))
 
     pub line-known : (rest : List Shape) → held + wordsToCome rest ≤ 7998 → Known TextRow (Taken held rest l) (readLine num held rest l)
     unfolding readLine
     line-known rest room =
-        by-test (Known TextRow (Taken held rest l)) (ltb 0 (badColumn 1 l)) (refused (answer 20 num (badColumn 1 l) 0)) _
-        (λ _. told 20 num (badColumn 1 l) (omega arith) hn (omega (arith, bad-most 1 l (omega arith))))
-        (λ t. let e = clean l (omega (arith, ltb-false 0 (badColumn 1 l) t)) in
-        known-as TextRow (Given held rest l) (Taken held rest l) (inState num held rest l) (state-known rest room e) (λ s g. record { readable = e; given = g }))
+        then-known TextRow (λ _. Readable l) (Taken held rest l) (plainLine num l) _ (plain-known num l hn)
+        (λ _ e. known-as TextRow (Given held rest l) (Taken held rest l) (inState num held rest l) (state-known rest room e) (λ s g. record { readable = e; given = g }))

@@ -58,10 +58,10 @@ place-put y es each s c c′ old new e h =
     rw (e, numbers-put v c ws i new, count-put v c c′ (sets ws i new), ← (length-joined y es each)) (ap (sheetWith v c′) (sets-part (joined es) old new (zerosPast y es) h))
 
 -- an entry is put behind those that stand, and the count
-pub added : {y : Layout} {s : List ℕ} {count : ℕ} {s₁ s₂ : List ℕ} (e : Entry) → Holds y s count → count < y .limit → length e ≡ y .words
+pub entry-added : {y : Layout} {s : List ℕ} {count : ℕ} {s₁ s₂ : List ℕ} (e : Entry) → Holds y s count → count < y .limit → length e ≡ y .words
     → s₁ ≡ sets s (8 + bytesOfWords (count * y .words)) (bytesOf e) → s₂ ≡ sets s₁ 5 (bytesOf ((count + 1) ∷ [])) → s₂ ≡ sheetOf y (entriesOf y s ++ e ∷ [])
 unfolding sheetOf
-added {y} {s} e h room size e₁ e₂ =
+entry-added {y} {s} e h room size e₁ e₂ =
     let v = y .version in
     let es = entriesOf y s in
     rw (e₂, e₁, h .count-is) (
@@ -70,22 +70,22 @@ added {y} {s} e h room size e₁ e₂ =
     )
 
 -- zeros are put in place of the last entry, and the count
-last-removed : (y : Layout) (s : List ℕ) (es : List Entry) (e : Entry) → IsSheet y s (es ++ e ∷ [])
+last-cleared : (y : Layout) (s : List ℕ) (es : List Entry) (e : Entry) → IsSheet y s (es ++ e ∷ [])
     → sets (sets s (8 + bytesOfWords (length es * y .words)) (bytesOf (replicate (y .words) 0))) 5 (bytesOf (length es ∷ [])) ≡ sheetOf y es
 unfolding sheetOf
-last-removed y s es e h =
+last-cleared y s es e h =
     let v = y .version in
     let l = length-append es (e ∷ []) in
     let p = all-parts (IsEntry y) es (e ∷ []) (h .each) in
     place-put y es (p .0) s _ (length es) e (replicate (y .words) 0) (h .bytes ∙ ap (sheetWith v _) (numbers-taken y es e)) (p .1 .0 .size ∙ sym (length-replicate (y .words) 0))
     ∙ ap (sheetWith v (length es)) (sym (numbers-free y es (omega (arith, h .most))))
 
-pub removed : {y : Layout} {s s₁ s₂ : List ℕ} (left : ℕ) → Holds y s (left + 1)
+pub entry-cleared : {y : Layout} {s s₁ s₂ : List ℕ} (left : ℕ) → Holds y s (left + 1)
     → s₁ ≡ sets s (8 + bytesOfWords (left * y .words)) (bytesOf (replicate (y .words) 0)) → s₂ ≡ sets s₁ 5 (bytesOf (left ∷ [])) → s₂ ≡ sheetOf y (take left (entriesOf y s))
-removed {y} {s} left h e₁ e₂ =
+entry-cleared {y} {s} left h e₁ e₂ =
     let es = entriesOf y s in
     let split : es ≡ take left es ++ getD es left [] ∷ [] = sym (take-all (suc left) es (omega (arith, h .count-is))) ∙ take-suc es left [] (omega (arith, h .count-is)) in
-    rw (e₂, e₁) (rw (length-take-le left es (omega (arith, h .count-is))) at (last-removed y s (take left es) (getD es left []) (subst (IsSheet y s) split (h .layout))))
+    rw (e₂, e₁) (rw (length-take-le left es (omega (arith, h .count-is))) at (last-cleared y s (take left es) (getD es left []) (subst (IsSheet y s) split (h .layout))))
 
 -- ---- an entry that is read
 

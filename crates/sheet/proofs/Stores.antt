@@ -100,10 +100,10 @@ number-put t l l′ ns at k h e q =
     rw (e, p, add-one) (rw (drop-cons ns k 0 h) at q)
 
 -- and then all are
-pub numbers-put : (s l ns : List ℕ) (i k : ℕ) (at : Words) → length ns ≤ k → at .0 ≡ 4 + i * 4 → sets l (bytesOfWords (at .0 + k)) (bytesOf (drop k ns)) ≡ sets s (bytesOfWords (at .0)) (bytesOf ns)
-    → l ≡ sets s (8 + bytesOfWords (i * 4)) (bytesOf ns)
+pub numbers-put : (s l ns : List ℕ) (size i k : ℕ) (at : Words) → length ns ≤ k → at .0 ≡ 4 + i * size → sets l (bytesOfWords (at .0 + k)) (bytesOf (drop k ns)) ≡ sets s (bytesOfWords (at .0)) (bytesOf ns)
+    → l ≡ sets s (8 + bytesOfWords (i * size)) (bytesOf ns)
 unfolding bytesOf
-numbers-put s l ns i k at h e q = let p : at .0 * 2 ≡ 8 + i * 4 * 2 = omega arith in rw (drop-of-length-le ns {i = k} h, p) at q
+numbers-put s l ns size i k at h e q = let p : at .0 * 2 ≡ 8 + i * size * 2 = omega arith in rw (drop-of-length-le ns {i = k} h, p) at q
 
 -- all four are there
 pub entry-room : (s : List ℕ) (i : ℕ) (at : Words) → KeepsLayout version1 s → i < length (entriesOf version1 s) → at .0 ≡ 4 + i * 4 → at .0 + 3 < length (wordsOf s)

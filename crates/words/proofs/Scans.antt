@@ -2,14 +2,15 @@
 use mathlib.Core.Path.{_≡_, refl, ap, _∙_}
 use mathlib.Core.Bool.{Bool, true, false}
 use mathlib.Core.List.{List, [], _∷_}
-use Prim.Native.Nat.{ℕ, suc, _+_, _-_, _*_, _/_, _%_, _≤_, _<_}
+use Prim.Native.Nat.{ℕ, zero, suc, _+_, _-_, _*_, _/_, _%_, _≤_, _<_, min}
 use native.Mathlib.Numerals.{add-one}
 use native.Mathlib.Omega.{arith}
-use lib.ListN.{length, getD, drop, drop-of-length-le}
+use lib.ListN.{length, getD, take, drop, drop-of-length-le}
 use lib.Seq.{drop-cons, slice}
-use Rattle.words.specs.Words.{wordsOf}
+use Rattle.words.specs.Words.{wordsOf, All}
 use Rattle.words.proofs.Laws.{words-slice}
 use Rattle.units.specs.Choice.{if_then_else_}
+use Rattle.units.proofs.Choosing.{by-test}
 use lib.Dec.{eqb, leb}
 use borrow.Author.Tests.{eqb-true, eqb-false, leb-true, le-leb, lt-leb}
 use Rattle.words.specs.Scans.{passing, wordWithin, isZero}
@@ -63,3 +64,36 @@ zero-within w = by (eqb w 0) refl (leb (w / 256) 0) refl
 -- a scan of the words of a part
 pub part-scan : (p : ℕ → Bool) (f t : ℕ) (b part : List ℕ) → part ≡ slice (f * 2) (t * 2) b → passing p (wordsOf part) ≡ passing p (slice f t (wordsOf b))
 part-scan p f t b part e = ap (λ l. passing p (wordsOf l)) e ∙ ap (passing p) (words-slice f t b)
+
+-- of the first n as many pass, if there are so many
+pub scan-take : (p : ℕ → Bool) (n : ℕ) (l : List ℕ) → passing p (take n l) ≡ min n (passing p l)
+unfolding passing
+scan-take p zero l = omega arith
+scan-take p (suc n) [] = omega arith
+scan-take p (suc n) (w ∷ ws) = go (p w) (scan-take p n ws)
+  where
+    go : (t : Bool) → passing p (take n ws) ≡ min n (passing p ws) → (if t then suc (passing p (take n ws)) else 0) ≡ min (suc n) (if t then suc (passing p ws) else 0)
+    go true h = omega arith
+    go false h = omega arith
+
+module _ (p : ℕ → Bool) (P : ℕ → Type 0) where
+  -- all pass: P holds of each
+  pub all-pass : ((w : ℕ) → p w ≡ true → P w) → (l : List ℕ) → length l ≤ passing p l → All P l
+  unfolding passing
+  all-pass s [] h = tt
+  all-pass s (w ∷ ws) h =
+      by-test (λ k. suc (length ws) ≤ k → P w × All P ws) (p w) (suc (passing p ws)) 0 (λ e k. (s w e, all-pass s ws (omega arith))) (λ _ k. absurd (omega arith)) h
+
+  -- and the other way
+  pub pass-all : ((w : ℕ) → P w → p w ≡ true) → (l : List ℕ) → All P l → passing p l ≡ length l
+  unfolding passing
+  pass-all s [] h = refl
+  pass-all s (w ∷ ws) h = rw (s w (h .0)) (ap suc (pass-all s ws (h .1)))
+
+-- each of those passes
+pub passes : (p : ℕ → Bool) (l : List ℕ) (i d : ℕ) → i < passing p l → p (getD l i d) ≡ true
+unfolding passing
+passes p [] i d h = absurd (omega arith)
+passes p (w ∷ ws) zero d h = by-test (λ k. 0 < k → p w ≡ true) (p w) (suc (passing p ws)) 0 (λ e _. e) (λ _ k. absurd (omega arith)) h
+passes p (w ∷ ws) (suc i) d h =
+    passes p ws i d (by-test (λ k. suc i < k → i < passing p ws) (p w) (suc (passing p ws)) 0 (λ _ k. omega arith) (λ _ k. absurd (omega arith)) h)

@@ -1,4 +1,5 @@
-use Rattle.amending.proofs.Outcome.{block-refused, sheet-refused, both-ready}
+use mathlib.Core.Path.{sym, ap, _∙_}
+use Rattle.block.specs.Cases.{judgedOf}
 use Rattle.amending.proofs.look.Statement.{statement}
 use Rattle.amending.proofs.look.Tie as tie
 
@@ -6,8 +7,6 @@ pub look-spec : {M : Type 1} → statement M
 look-spec =
     tie.close
     (tie.spec
-    (λ c κs. tt) (λ c. c .match .keys1) (λ c. c .match .keys2) (λ c κs. tt) (λ c. c .match2 .keys1)
-    (λ c. c .match2 .keys2)
-    (λ c. search block-refused)
-    (λ c. search sheet-refused)
-    (λ c. search both-ready))
+    (λ c κs. tt) (λ c. c .match .keys1) (λ c. c .match .keys2) (λ c κs. tt)
+    (λ c. rw (sym (c .before .before .before .judge .ensures) ∙ ap judgedOf (c .before .r .given .1)))
+    (λ c. rw (sym (c .before .before .before .judge .ensures) ∙ ap judgedOf (c .before .enum-told .given .1)) (c .look-at-sheet .ensures)))

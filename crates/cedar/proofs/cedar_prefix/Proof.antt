@@ -5,17 +5,8 @@ use borrow.Author.Needs.{needs}
 use Rattle.cedar.proofs.cedar_prefix.Statement.{statement}
 use Rattle.cedar.proofs.cedar_prefix.Tie as tie
 
-prefix-of-requires : tie.Need-prefix-of-requires
-prefix-of-requires c κs = search needs
-
-numbers-requires : tie.Need-numbers-requires
-numbers-requires c κs = search needs
-
-pack-requires : tie.Need-pack-requires
-pack-requires c κs = search needs
-
 returns : tie.Need-returns
 returns c = c .pack .ensures ∙ ap packedOf (c .before .numbers .ensures .0 ∙ ap answerOf (c .before .before .prefix-of .ensures))
 
 pub cedar-prefix-spec : {M : Type 1} → statement M
-cedar-prefix-spec = tie.close (tie.spec prefix-of-requires numbers-requires pack-requires returns)
+cedar-prefix-spec = tie.close (tie.spec (λ c κs. search needs) (λ c κs. search needs) (λ c κs. search needs) returns)

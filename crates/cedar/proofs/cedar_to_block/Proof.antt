@@ -13,21 +13,15 @@ use Rattle.cedar.proofs.cedar_to_block.Tie as tie
 room : (c : tie.After-to-block) → Packs (builtOf (c .to-block .result))
 room c = let a = c .before .before .before .before .args in rw (ap (λ w. w .answer) (c .to-block .ensures)) (answer-told (now (a .text)) (now (a .block)) .packs)
 
-to-block-requires : tie.Need-to-block-requires
-to-block-requires c κs = search needs
-
 numbers-requires : tie.Need-numbers-requires
 numbers-requires c κs = room (c .before .before)
 
 pack-requires : tie.Need-pack-requires
 pack-requires c κs = omega (arith, room (c .before .before .before) .a-fits, ap (λ r. r .a) (c .numbers .ensures))
 
-same-length : tie.Need-same-length
-same-length c = search needs
-
 returns : tie.Need-returns
 returns c = rw (c .pack .ensures, c .before .numbers .ensures) (ap converted (c .before .before .before .before .to-block .ensures))
 
 pub cedar-to-block-spec : {M : Type 1} → statement M
 cedar-to-block-spec =
-    tie.close (tie.spec to-block-requires numbers-requires pack-requires same-length returns)
+    tie.close (tie.spec (λ c κs. search needs) numbers-requires pack-requires (λ c. search needs) returns)

@@ -17,21 +17,15 @@ room c =
     let below = all-below 256 b (λ i. omega (arith, c .before .before .before .shared-slice-known .given i)) in
     rw (ap (λ w. w .answer) (c .to-lines .ensures)) (outcome-told b (now (c .before .before .before .before .args .text)) below .1 .a-fits)
 
-to-lines-requires : tie.Need-to-lines-requires
-to-lines-requires c κs = search needs
-
 numbers-requires : tie.Need-numbers-requires
 numbers-requires c κs = room (c .before .before)
 
 pack-requires : tie.Need-pack-requires
 pack-requires c κs = omega (arith, room (c .before .before .before), ap (λ r. r .a) (c .numbers .ensures))
 
-same-length : tie.Need-same-length
-same-length c = search needs
-
 returns : tie.Need-returns
 returns c = rw (c .pack .ensures, c .before .numbers .ensures) (ap converted (c .before .before .before .before .to-lines .ensures))
 
 pub cedar-to-lines-spec : {M : Type 1} → statement M
 cedar-to-lines-spec =
-    tie.close (tie.spec to-lines-requires numbers-requires pack-requires same-length returns)
+    tie.close (tie.spec (λ c κs. search needs) numbers-requires pack-requires (λ c. search needs) returns)

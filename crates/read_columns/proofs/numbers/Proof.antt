@@ -5,65 +5,29 @@ use borrow.Author.Needs.{needs}
 use Rattle.read_columns.proofs.numbers.Statement.{statement}
 use Rattle.read_columns.proofs.numbers.Tie as tie
 
-enum-known-f : tie.Need-enum-known-f
-enum-known-f c = search needs
-
 spot-requires : tie.Need-spot-requires
 spot-requires c κs = (omega (arith, ap (λ x. flawOf x .a) (c .before .f .given .1), c .before .before .before .pre .a-fits), omega (arith, ap (λ x. flawOf x .b) (c .before .f .given .1), c .before .before .before .pre .b-fits))
-
-enum-told : tie.Need-enum-told
-enum-told c = search needs
-
-spot-requires-2 : tie.Need-spot-requires-2
-spot-requires-2 c κs = search needs
-
-enum-known-f-2 : tie.Need-enum-known-f-2
-enum-known-f-2 c = search needs
 
 spot-requires-3 : tie.Need-spot-requires-3
 spot-requires-3 c κs = (omega (arith, ap (λ x. flawOf x .a) (c .before .f2 .given .1), c .before .before .before .pre .a-fits), omega (arith, ap (λ x. flawOf x .b) (c .before .f2 .given .1), c .before .before .before .pre .b-fits))
 
-enum-known-f-3 : tie.Need-enum-known-f-3
-enum-known-f-3 c = search needs
-
 spot-requires-4 : tie.Need-spot-requires-4
 spot-requires-4 c κs = (omega (arith, ap (λ x. flawOf x .a) (c .before .f3 .given .1), c .before .before .before .pre .a-fits), omega arith)
-
-enum-known-f-4 : tie.Need-enum-known-f-4
-enum-known-f-4 c = search needs
 
 spot-requires-5 : tie.Need-spot-requires-5
 spot-requires-5 c κs = (omega (arith, ap (λ x. flawOf x .a) (c .before .f4 .given .1), c .before .before .before .pre .a-fits), omega arith)
 
-enum-known-f-5 : tie.Need-enum-known-f-5
-enum-known-f-5 c = search needs
-
 spot-requires-6 : tie.Need-spot-requires-6
 spot-requires-6 c κs = (omega (arith, ap (λ x. flawOf x .a) (c .before .f5 .given .1), c .before .before .before .pre .a-fits), omega arith)
-
-enum-known-f-6 : tie.Need-enum-known-f-6
-enum-known-f-6 c = search needs
 
 spot-requires-7 : tie.Need-spot-requires-7
 spot-requires-7 c κs = (omega (arith, ap (λ x. flawOf x .a) (c .before .f6 .given .1), c .before .before .before .pre .a-fits), omega (arith, ap (λ x. flawOf x .b) (c .before .f6 .given .1), c .before .before .before .pre .b-fits))
 
-enum-known-f-7 : tie.Need-enum-known-f-7
-enum-known-f-7 c = search needs
-
 spot-requires-8 : tie.Need-spot-requires-8
 spot-requires-8 c κs = (omega (arith, ap (λ x. flawOf x .a) (c .before .f7 .given .1), c .before .before .before .pre .a-fits), omega (arith, ap (λ x. flawOf x .b) (c .before .f7 .given .1), c .before .before .before .pre .b-fits))
 
-enum-known-f-8 : tie.Need-enum-known-f-8
-enum-known-f-8 c = search needs
-
 spot-requires-9 : tie.Need-spot-requires-9
 spot-requires-9 c κs = (omega (arith, ap (λ x. flawOf x .a) (c .before .f8 .given .1), c .before .before .before .pre .a-fits), omega arith)
-
-enum-told-2 : tie.Need-enum-told-2
-enum-told-2 c = search needs
-
-spot-requires-10 : tie.Need-spot-requires-10
-spot-requires-10 c κs = search needs
 
 returns : tie.Need-returns
 returns c = c .spot .ensures ∙ sym (ap flawOf (c .before .before .f .given .1))
@@ -99,26 +63,26 @@ pub numbers-spec : {M : Type 1} → statement M
 numbers-spec =
     tie.close
     (tie.spec
-    enum-known-f
+    (λ c. search needs)
     spot-requires
-    enum-told
-    spot-requires-2
-    enum-known-f-2
+    (λ c. search needs)
+    (λ c κs. search needs)
+    (λ c. search needs)
     spot-requires-3
-    enum-known-f-3
+    (λ c. search needs)
     spot-requires-4
-    enum-known-f-4
+    (λ c. search needs)
     spot-requires-5
-    enum-known-f-5
+    (λ c. search needs)
     spot-requires-6
-    enum-known-f-6
+    (λ c. search needs)
     spot-requires-7
-    enum-known-f-7
+    (λ c. search needs)
     spot-requires-8
-    enum-known-f-8
+    (λ c. search needs)
     spot-requires-9
-    enum-told-2
-    spot-requires-10
+    (λ c. search needs)
+    (λ c κs. search needs)
     returns
     returns-2
     returns-3

@@ -20,23 +20,8 @@ abbrev μ-loop : tie.MeasureT-loop
 abbrev start-before-read-field : tie.After-read-field Inv-loop μ-loop → tie.Start Inv-loop μ-loop
 start-before-read-field c = c .before .before .before .before .before .before .before .before
 
-add-end : tie.Need-add-end Inv-loop μ-loop
-add-end c = search needs
-
 loop-holds : tie.Need-loop-holds Inv-loop μ-loop
 loop-holds c = (omega arith, c .before .before .before .before .pre .1, refl)
-
-columns-of-fields-requires : tie.Need-columns-of-fields-requires Inv-loop μ-loop
-columns-of-fields-requires c κs = omega arith
-
-read-field-requires : tie.Need-read-field-requires Inv-loop μ-loop
-read-field-requires c κs = tt
-
-enum-told : tie.Need-enum-told Inv-loop μ-loop
-enum-told c = search needs
-
-column-of-requires : tie.Need-column-of-requires Inv-loop μ-loop
-column-of-requires c κs = omega arith
 
 same-length : tie.Need-same-length Inv-loop μ-loop
 same-length c = c .before .before .before .before .before .before .loop .inv .1 ∙ sym (start-before-read-field (c .before .before .before) .pre .1)
@@ -46,20 +31,8 @@ unfolding filled
 returns c = let l = c .before .before .before .before .before .before .loop in let a = start-before-read-field (c .before .before .before) .args in
     rw (c .column-of .ensures) (sym (ap (λ m. filled (a .num .0) (now (a .line)) (a .from .0) m (now (a .row))) (sym (add-sub-cancel-left (a .from .0) (a .count .0))) ∙ sym (l .inv .2) ∙ fill-bad (a .num .0) (now (a .line)) (l .k) (c .before .before .before .read-field .result) (c .before .before .before .before .columns-of-fields .result .0) (c .before .before .before .before .columns-of-fields .ensures) (c .before .before .before .read-field .ensures) (a .from .0 + a .count .0) (l .row) (c .before .before .before .before .before .loop-test .taken) (c .before .enum-told .given .1)))
 
-enum-known-w : tie.Need-enum-known-w Inv-loop μ-loop
-enum-known-w c = search needs
-
-mul-row : tie.Need-mul-row Inv-loop μ-loop
-mul-row c = search needs
-
 slice-write-row : tie.Need-slice-write-row Inv-loop μ-loop
 slice-write-row c = omega (arith, c .before .before .before .before .before .before .loop .inv .1)
-
-add-k : tie.Need-add-k Inv-loop μ-loop
-add-k c = search needs
-
-loop-less : tie.Need-loop-less Inv-loop μ-loop
-loop-less c = omega arith
 
 loop-again : tie.Need-loop-again Inv-loop μ-loop
 loop-again c = let l = c .before .before .before .before .before .before .loop in let a = start-before-read-field (c .before .before .before) .args in (
@@ -82,19 +55,19 @@ read-numbers-spec =
     (tie.spec
     Inv-loop
     μ-loop
-    add-end
+    (λ c. search needs)
     loop-holds
-    columns-of-fields-requires
-    read-field-requires
-    enum-told
-    column-of-requires
+    (λ c κs. omega arith)
+    (λ c κs. tt)
+    (λ c. search needs)
+    (λ c κs. omega arith)
     same-length
     returns
-    enum-known-w
-    mul-row
+    (λ c. search needs)
+    (λ c. search needs)
     slice-write-row
-    add-k
-    loop-less
+    (λ c. search needs)
+    (λ c. omega arith)
     loop-again
     same-length-2
     returns-2)

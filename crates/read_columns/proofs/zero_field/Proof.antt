@@ -17,34 +17,13 @@ read : (c : tie.After-read-field) → let a = c .before .before .before .before 
 read c = let a = c .before .before .before .before .before .args in
     number-is (a .num .0) (now (a .line)) (a .k .0) (c .read-field .result) (c .before .columns-of-fields .result .0) (c .before .columns-of-fields .ensures) (c .read-field .ensures)
 
-blank-field-requires : tie.Need-blank-field-requires
-blank-field-requires c κs = search needs
-
 returns : tie.Need-returns
 unfolding zeroField
 returns c = rw (sym (c .before .blank-field .ensures), c .if1 .taken)
 
-columns-of-fields-requires : tie.Need-columns-of-fields-requires
-columns-of-fields-requires c κs = search needs
-
-read-field-requires : tie.Need-read-field-requires
-read-field-requires c κs = search needs
-
-enum-told : tie.Need-enum-told
-enum-told c = search needs
-
-column-of-requires : tie.Need-column-of-requires
-column-of-requires c κs = search needs
-
-enum-known-w : tie.Need-enum-known-w
-enum-known-w c = search needs
-
 returns-2 : tie.Need-returns-2
 unfolding zeroField
 returns-2 c = rw (inked (c .before .before .before .before .before .before), read (c .before .before .before .before), c .before .before .w .given .1) (simp (eq-eqb (c .before .before .w .given .0 .0) 0 (c .if2 .taken)))
-
-column-of-requires-2 : tie.Need-column-of-requires-2
-column-of-requires-2 c κs = search needs
 
 returns-3 : tie.Need-returns-3
 unfolding zeroField
@@ -58,14 +37,14 @@ pub zero-field-spec : {M : Type 1} → statement M
 zero-field-spec =
     tie.close
     (tie.spec
-    blank-field-requires
+    (λ c κs. search needs)
     returns
-    columns-of-fields-requires
-    read-field-requires
-    enum-told
-    column-of-requires
-    enum-known-w
+    (λ c κs. search needs)
+    (λ c κs. search needs)
+    (λ c. search needs)
+    (λ c κs. search needs)
+    (λ c. search needs)
     returns-2
-    column-of-requires-2
+    (λ c κs. search needs)
     returns-3
     returns-4)

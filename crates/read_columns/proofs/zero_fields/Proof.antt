@@ -20,30 +20,12 @@ abbrev μ-loop : tie.MeasureT-loop
 abbrev start-before-loop : tie.At-loop Inv-loop μ-loop → tie.Start Inv-loop μ-loop
 start-before-loop c = c .before .before .before .before
 
-add-end : tie.Need-add-end Inv-loop μ-loop
-add-end c = search needs
-
 loop-holds : tie.Need-loop-holds Inv-loop μ-loop
 loop-holds c = (omega arith, refl)
-
-zero-field-requires : tie.Need-zero-field-requires Inv-loop μ-loop
-zero-field-requires c κs = omega arith
-
-enum-known-f : tie.Need-enum-known-f Inv-loop μ-loop
-enum-known-f c = search needs
 
 returns : tie.Need-returns Inv-loop μ-loop
 returns c = let l = c .before .before .before .before .before .loop in let a = start-before-loop (c .before .before .before .before .before) .args in
     sym (zeros-bad (a .num .0) (now (a .line)) (l .k) (a .from .0 + a .count .0) (c .before .before .before .before .loop-test .taken) (flawOf (c .before .f .given .0 .0)) (sym (ap (checkedOf tt) (c .before .f .given .1)) ∙ c .before .before .before .zero-field .ensures)) ∙ l .inv .1 ∙ ap (zeros (a .num .0) (now (a .line)) (a .from .0)) (add-sub-cancel-left (a .from .0) (a .count .0))
-
-enum-told : tie.Need-enum-told Inv-loop μ-loop
-enum-told c = search needs
-
-add-k : tie.Need-add-k Inv-loop μ-loop
-add-k c = search needs
-
-loop-less : tie.Need-loop-less Inv-loop μ-loop
-loop-less c = omega arith
 
 loop-again : tie.Need-loop-again Inv-loop μ-loop
 loop-again c = let l = c .before .before .before .before .loop in let a = start-before-loop (c .before .before .before .before) .args in
@@ -59,13 +41,13 @@ zero-fields-spec =
     (tie.spec
     Inv-loop
     μ-loop
-    add-end
+    (λ c. search needs)
     loop-holds
-    zero-field-requires
-    enum-known-f
+    (λ c κs. omega arith)
+    (λ c. search needs)
     returns
-    enum-told
-    add-k
-    loop-less
+    (λ c. search needs)
+    (λ c. search needs)
+    (λ c. omega arith)
     loop-again
     returns-2)

@@ -5,7 +5,8 @@ use Prim.Native.Nat.{_+_, _-_, _*_}
 use native.Mathlib.Omega.{arith}
 use lib.ListN.{length, replicate}
 use lib.Seq.{slice}
-use Rattle.read_first_line.proofs.Heads.{put-append, zero-bytes, head-length}
+use Rattle.read_first_line.proofs.Heads.{put-append, head-length}
+use Rattle.words.proofs.Laws.{zero-bytes}
 use borrow.Author.Needs.{needs}
 use Rattle.read_first_line.proofs.put_cards_head.Statement.{statement}
 use Rattle.read_first_line.proofs.put_cards_head.Tie as tie

@@ -24,43 +24,10 @@ row-fields-before-block c = c .before .before .before .before .before .before .b
 abbrev row-before-block : tie.After-block → tie.After-row
 row-before-block c = c .before .before .before .before .before .before .before
 
-on-line-requires : tie.Need-on-line-requires
-on-line-requires c κs = search needs
-
-add-first : tie.Need-add-first
-add-first c = search needs
-
-add-behind : tie.Need-add-behind
-add-behind c = search needs
-
-one-line-less-requires : tie.Need-one-line-less-requires
-one-line-less-requires c κs = search needs
-
-row-fields-requires : tie.Need-row-fields-requires
-row-fields-requires c κs = search needs
-
-enum-known-f : tie.Need-enum-known-f
-enum-known-f c = search needs
-
-enum-told : tie.Need-enum-told
-enum-told c = search needs
-
-store-words-requires : tie.Need-store-words-requires
-store-words-requires c κs = search needs
-
-same-length : tie.Need-same-length
-same-length c = search needs
-
 returns : tie.Need-returns
 returns c = let a = start-before-row (c .before .before .before .before) .args in
     same-step _ _ (sym (fields-is (a .num .0) (a .held .0) (now (a .line)) (toCome (a .p)) (toCome (c .before .before .before .before .before .before .before .one-line-less .result)) (on-line-before-row (c .before .before .before .before) .on-line .result .0) (c .before .before .before .before .before .before .before .one-line-less .ensures)))
     (flaw-ends _ _ _ (c .before .f .given .1) (c .before .before .before .before .before .row-fields .ensures))
-
-same-length-2 : tie.Need-same-length-2
-same-length-2 c = search needs
-
-same-length-3 : tie.Need-same-length-3
-same-length-3 c = search needs
 
 returns-2 : tie.Need-returns-2
 returns-2 c = let a = start-before-row (row-before-block (c .before)) .args in let n = on-line-before-row (row-before-block (c .before)) .on-line .result .0 in let row = row-fields-before-block (c .before) .row-fields .last .1 .1 .1 .0 in
@@ -74,16 +41,16 @@ pub fields-line-spec : {M : Type 1} → statement M
 fields-line-spec =
     tie.close
     (tie.spec
-    on-line-requires
-    add-first
-    add-behind
-    one-line-less-requires
-    row-fields-requires
-    enum-known-f
-    enum-told
-    store-words-requires
-    same-length
+    (λ c κs. search needs)
+    (λ c. search needs)
+    (λ c. search needs)
+    (λ c κs. search needs)
+    (λ c κs. search needs)
+    (λ c. search needs)
+    (λ c. search needs)
+    (λ c κs. search needs)
+    (λ c. search needs)
     returns
-    same-length-2
-    same-length-3
+    (λ c. search needs)
+    (λ c. search needs)
     returns-2)

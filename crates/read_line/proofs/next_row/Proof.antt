@@ -10,12 +10,6 @@ use borrow.Author.Needs.{needs}
 use Rattle.read_line.proofs.next_row.Statement.{statement}
 use Rattle.read_line.proofs.next_row.Tie as tie
 
-parts-requires : tie.Need-parts-requires
-parts-requires c κs = search needs
-
-sub-others : tie.Need-sub-others
-sub-others c = search needs
-
 returns : tie.Need-returns
 unfolding toCome linesLeft times
 returns c = let p = c .before .before .args .p in (
@@ -28,4 +22,4 @@ unfolding linesLeft
 returns-2 c = let p = c .before .before .args .p in (refl, λ e. no-parts (p .left .0) e (c .before .before .pre .1) (sym (c .before .parts .ensures .1) ∙ times-zero (c .before .parts .result) (p .mpar .0) (omega (arith, c .if1 .left))))
 
 pub next-row-spec : {M : Type 1} → statement M
-next-row-spec = tie.close (tie.spec parts-requires sub-others returns returns-2)
+next-row-spec = tie.close (tie.spec (λ c κs. search needs) (λ c. search needs) returns returns-2)

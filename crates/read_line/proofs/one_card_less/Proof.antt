@@ -4,12 +4,9 @@ use borrow.Author.Needs.{needs}
 use Rattle.read_line.proofs.one_card_less.Statement.{statement}
 use Rattle.read_line.proofs.one_card_less.Tie as tie
 
-sub-cards : tie.Need-sub-cards
-sub-cards c = search needs
-
 returns : tie.Need-returns
 unfolding toCome linesLeft
 returns c = card-less (c .before .args .p) (c .before .pre)
 
 pub one-card-less-spec : {M : Type 1} → statement M
-one-card-less-spec = tie.close (tie.spec sub-cards returns)
+one-card-less-spec = tie.close (tie.spec (λ c. search needs) returns)

@@ -10,8 +10,5 @@ returns : tie.Need-returns
 unfolding times
 returns c = let a = c .before .before .args in (omega arith, sym (times-none (a .count) (a .width .0) (c .if1 .taken)), λ h. absurd (omega arith))
 
-returns-2 : tie.Need-returns-2
-returns-2 c = search needs
-
 pub parts-spec : {M : Type 1} → statement M
-parts-spec = tie.close (tie.spec returns returns-2)
+parts-spec = tie.close (tie.spec returns (λ c. search needs))

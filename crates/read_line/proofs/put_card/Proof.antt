@@ -16,40 +16,13 @@ use Rattle.read_line.proofs.put_card.Tie as tie
 abbrev start-before-bytes-of-words : tie.After-bytes-of-words → tie.Start
 start-before-bytes-of-words c = c .before .before .before .before
 
-add-first : tie.Need-add-first
-add-first c = search needs
-
-bytes-of-words-requires : tie.Need-bytes-of-words-requires
-bytes-of-words-requires c κs = search needs
-
 slice-aggregate-store-bytes : tie.Need-slice-aggregate-store-bytes
 slice-aggregate-store-bytes c = sym (length-take-le 80 (now (start-before-bytes-of-words (c .before .before) .args .line)) (c .before .if1 .taken))
-
-store-bytes-requires : tie.Need-store-bytes-requires
-store-bytes-requires c κs = search needs
-
-same-length : tie.Need-same-length
-same-length c = search needs
 
 returns : tie.Need-returns
 returns c = let a = start-before-bytes-of-words (c .before .before .before .before .before .before) .args in let l = now (a .line) in
     let below : Below 256 l = all-below 256 l (λ i. omega (arith, c .before .before .before .before .before .before .before .before .before .shared-slice-known .given i)) in
     c .before .before .store-bytes .ensures ∙ rw (c .before .before .before .before .before .before .bytes-of-words .ensures, card-bytes l below, long-card l (c .before .before .before .before .before .if1 .taken))
-
-sub-left : tie.Need-sub-left
-sub-left c = search needs
-
-add-next : tie.Need-add-next
-add-next c = search needs
-
-store-bytes-requires-2 : tie.Need-store-bytes-requires-2
-store-bytes-requires-2 c κs = search needs
-
-store-filling-requires : tie.Need-store-filling-requires
-store-filling-requires c κs = search needs
-
-same-length-2 : tie.Need-same-length-2
-same-length-2 c = search needs
 
 returns-2 : tie.Need-returns-2
 returns-2 c = let a = start-before-bytes-of-words (c .before .before .before .before .before .before .before .before .before) .args in let l = now (a .line) in
@@ -60,15 +33,15 @@ pub put-card-spec : {M : Type 1} → statement M
 put-card-spec =
     tie.close
     (tie.spec
-    add-first
-    bytes-of-words-requires
+    (λ c. search needs)
+    (λ c κs. search needs)
     slice-aggregate-store-bytes
-    store-bytes-requires
-    same-length
+    (λ c κs. search needs)
+    (λ c. search needs)
     returns
-    sub-left
-    add-next
-    store-bytes-requires-2
-    store-filling-requires
-    same-length-2
+    (λ c. search needs)
+    (λ c. search needs)
+    (λ c κs. search needs)
+    (λ c κs. search needs)
+    (λ c. search needs)
     returns-2)

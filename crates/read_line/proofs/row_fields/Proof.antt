@@ -18,31 +18,10 @@ use Rattle.read_line.proofs.row_fields.Tie as tie
 abbrev read-numbers-before-blank-after : tie.After-blank-after → tie.After-read-numbers
 read-numbers-before-blank-after c = c .before .before .before .before .before .before
 
-read-numbers-requires : tie.Need-read-numbers-requires
-read-numbers-requires c κs = search needs
-
-enum-known-f : tie.Need-enum-known-f
-enum-known-f c = search needs
-
-enum-told : tie.Need-enum-told
-enum-told c = search needs
-
-columns-of-fields-requires : tie.Need-columns-of-fields-requires
-columns-of-fields-requires c κs = search needs
-
-blank-after-requires : tie.Need-blank-after-requires
-blank-after-requires c κs = search needs
-
-same-length : tie.Need-same-length
-same-length c = search needs
-
 returns : tie.Need-returns
 unfolding rowFields
 returns c = let a = c .before .before .before .before .before .before .before .before .before .args in let num = a .num .0 in let l = now (a .line) in let n = a .count .0 in
     flaw-read [] (λ r. onward (blankAfter num l (6 * n)) (λ _. passed r)) (numbers num l 0 n) _ (c .before .f .given .1) (c .before .before .before .before .before .read-numbers .ensures)
-
-same-length-2 : tie.Need-same-length-2
-same-length-2 c = search needs
 
 returns-2 : tie.Need-returns-2
 unfolding rowFields
@@ -55,12 +34,12 @@ pub row-fields-spec : {M : Type 1} → statement M
 row-fields-spec =
     tie.close
     (tie.spec
-    read-numbers-requires
-    enum-known-f
-    enum-told
-    columns-of-fields-requires
-    blank-after-requires
-    same-length
+    (λ c κs. search needs)
+    (λ c. search needs)
+    (λ c. search needs)
+    (λ c κs. search needs)
+    (λ c κs. search needs)
+    (λ c. search needs)
     returns
-    same-length-2
+    (λ c. search needs)
     returns-2)

@@ -13,12 +13,6 @@ use Rattle.read_line.proofs.settled.Tie as tie
 returns : tie.Need-returns
 returns c = (refl, λ e. absurd (omega (arith, c .if1 .taken)))
 
-parts-requires : tie.Need-parts-requires
-parts-requires c κs = search needs
-
-sub-others : tie.Need-sub-others
-sub-others c = search needs
-
 returns-2 : tie.Need-returns-2
 unfolding toCome linesLeft
 returns-2 c = let p = c .before .before .before .before .args .p in let rest = times (p .rows) (part (p .mpar .0)) in (
@@ -29,9 +23,6 @@ returns-2 c = let p = c .before .before .before .before .args .p in let rest = t
 next-row-requires : tie.Need-next-row-requires
 next-row-requires c κs = let p = c .before .before .before .before .args .p in (omega (arith, c .before .before .if1 .left), sym (c .before .parts .ensures .1) ∙ times-zero (c .before .parts .result) (p .jpar .0) (omega (arith, c .if2 .left)))
 
-returns-3 : tie.Need-returns-3
-returns-3 c = search needs
-
 pub settled-spec : {M : Type 1} → statement M
 settled-spec =
-    tie.close (tie.spec returns parts-requires sub-others returns-2 next-row-requires returns-3)
+    tie.close (tie.spec returns (λ c κs. search needs) (λ c. search needs) returns-2 next-row-requires (λ c. search needs))

@@ -16,40 +16,25 @@ start-before-then2 c = c .before .before .before .before
 returns : tie.Need-returns
 returns c = let a = c .before .before .before .args in sym (sets-out (now (a .out)) (a .at .0) (now (a .bytes)) (c .if1 .taken))
 
-sub-room : tie.Need-sub-room
-sub-room c = search needs
-
 slice-aggregate-write-bytes : tie.Need-slice-aggregate-write-bytes
 slice-aggregate-write-bytes c = let a = start-before-then2 (c .before) .args in sym (length-take-le (length (now (a .out)) - a .at .0) (now (a .bytes)) (omega (arith, c .before .if2 .taken)))
 
 write-bytes-requires : tie.Need-write-bytes-requires
 write-bytes-requires c κs = let a = start-before-then2 (c .before .before) .args in omega (arith, length-take-le (length (now (a .out)) - a .at .0) (now (a .bytes)) (omega (arith, c .before .before .if2 .taken)))
 
-same-length : tie.Need-same-length
-same-length c = search needs
-
 returns-2 : tie.Need-returns-2
 returns-2 c = let a = start-before-then2 (c .before .before .before .before .before) .args in c .before .before .write-bytes .ensures .bytes ∙ sym (sets-cut (now (a .out)) (a .at .0) (length (now (a .out)) - a .at .0) (now (a .bytes)) (omega (arith, c .before .before .before .before .before .if2 .taken)) (omega (arith, c .before .before .before .before .before .before .if1 .left)))
-
-write-bytes-requires-2 : tie.Need-write-bytes-requires-2
-write-bytes-requires-2 c κs = search needs
-
-same-length-2 : tie.Need-same-length-2
-same-length-2 c = search needs
-
-returns-3 : tie.Need-returns-3
-returns-3 c = search needs
 
 pub store-bytes-spec : {M : Type 1} → statement M
 store-bytes-spec =
     tie.close
     (tie.spec
     returns
-    sub-room
+    (λ c. search needs)
     slice-aggregate-write-bytes
     write-bytes-requires
-    same-length
+    (λ c. search needs)
     returns-2
-    write-bytes-requires-2
-    same-length-2
-    returns-3)
+    (λ c κs. search needs)
+    (λ c. search needs)
+    (λ c. search needs))

@@ -22,18 +22,6 @@ same-length c = c .before .before .loop .inv .0
 returns : tie.Need-returns Inv-loop μ-loop
 returns c = let l = c .before .before .loop in sym (sets-out (l .out) (l .to) (replicate (l .left) (c .before .before .before .args .b)) (c .if1 .taken)) ∙ l .inv .1
 
-slice-write-out : tie.Need-slice-write-out Inv-loop μ-loop
-slice-write-out c = search needs
-
-add-to : tie.Need-add-to Inv-loop μ-loop
-add-to c = search needs
-
-sub-left : tie.Need-sub-left Inv-loop μ-loop
-sub-left c = search needs
-
-loop-less : tie.Need-loop-less Inv-loop μ-loop
-loop-less c = omega arith
-
 loop-again : tie.Need-loop-again Inv-loop μ-loop
 loop-again c = let l = c .before .before .loop in (length-set (l .out) (l .to) (c .before .before .before .args .b) ∙ l .inv .0, sym (fill-on (l .out) (l .to) (l .left) (c .before .before .before .args .b) (c .before .loop-test .taken)) ∙ l .inv .1)
 
@@ -52,10 +40,10 @@ store-filling-spec =
     loop-holds
     same-length
     returns
-    slice-write-out
-    add-to
-    sub-left
-    loop-less
+    (λ c. search needs)
+    (λ c. search needs)
+    (λ c. search needs)
+    (λ c. omega arith)
     loop-again
     same-length-2
     returns-2)

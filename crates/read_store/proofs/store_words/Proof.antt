@@ -30,24 +30,6 @@ returns c = let a = c .before .before .before .args in sym (sets-out (now (a .ou
 loop-holds : tie.Need-loop-holds Inv-loop μ-loop
 loop-holds c = (refl, refl, refl)
 
-mul-store-word : tie.Need-mul-store-word Inv-loop μ-loop
-mul-store-word c = search needs
-
-shared-slice-read-store-word : tie.Need-shared-slice-read-store-word Inv-loop μ-loop
-shared-slice-read-store-word c = search needs
-
-store-word-requires : tie.Need-store-word-requires Inv-loop μ-loop
-store-word-requires c κs = omega arith
-
-add-k : tie.Need-add-k Inv-loop μ-loop
-add-k c = search needs
-
-add-to : tie.Need-add-to Inv-loop μ-loop
-add-to c = omega arith
-
-loop-less : tie.Need-loop-less Inv-loop μ-loop
-loop-less c = omega arith
-
 loop-again : tie.Need-loop-again Inv-loop μ-loop
 loop-again c = let l = loop-before-out (c .before) .loop in let a = start-before-loop (loop-before-out (c .before)) .args in (
   ap length (c .before .before .store-word .ensures) ∙ length-sets (l .out) (l .to * 2) (bytesOf (getD (now (a .row)) (l .k) 0 ∷ [])) ∙ l .inv .0,
@@ -69,12 +51,12 @@ store-words-spec =
     μ-loop
     returns
     loop-holds
-    mul-store-word
-    shared-slice-read-store-word
-    store-word-requires
-    add-k
-    add-to
-    loop-less
+    (λ c. search needs)
+    (λ c. search needs)
+    (λ c κs. omega arith)
+    (λ c. search needs)
+    (λ c. omega arith)
+    (λ c. omega arith)
     loop-again
     same-length
     returns-2)

@@ -10,9 +10,6 @@ use Rattle.read_text.proofs.at_end.Tie as tie
 abbrev settled-before-else2 : tie.Else2 → tie.After-settled
 settled-before-else2 c = c .before .before .before .before
 
-settled-requires : tie.Need-settled-requires
-settled-requires c κs = search needs
-
 returns : tie.Need-returns
 returns c = let a = c .before .before .before .args in λ b. inside (a .num .0) (a .held .0) b _ _ (sym (c .before .before .settled .ensures .0) ∙ card-less (c .before .before .settled .result) (c .if1 .taken))
 
@@ -26,4 +23,4 @@ returns-4 : tie.Need-returns-4
 returns-4 c = let a = settled-before-else2 (c .before .before) .before .args in λ b. all-read (a .num .0) (a .held .0) b (sym (settled-before-else2 (c .before .before) .settled .ensures .0) ∙ none-to-come (settled-before-else2 (c .before .before) .settled .result) (omega (arith, c .before .before .before .before .if1 .left)) (settled-before-else2 (c .before .before) .settled .ensures .1 (omega (arith, c .before .before .if2 .left)))) (c .if3 .left)
 
 pub at-end-spec : {M : Type 1} → statement M
-at-end-spec = tie.close (tie.spec settled-requires returns returns-2 returns-3 returns-4)
+at-end-spec = tie.close (tie.spec (λ c κs. search needs) returns returns-2 returns-3 returns-4)

@@ -12,15 +12,9 @@ returns : tie.Need-returns
 unfolding wordsIn
 returns c = let t = now (c .before .before .args .text) in rw (too-long t (c .if1 .taken))
 
-slice-aggregate-read-lines : tie.Need-slice-aggregate-read-lines
-slice-aggregate-read-lines c = search needs
-
-read-lines-requires : tie.Need-read-lines-requires
-read-lines-requires c κs = search needs
-
 returns-2 : tie.Need-returns-2
 returns-2 c = let t = now (c .before .before .before .before .before .args .text) in
     counted t [] (c .before .read-lines .last .1 .0) (c .before .read-lines .result) (c .before .read-lines .ensures ∙ ap (stored 0 []) (sym (line-by-line t (c .before .before .before .if1 .left))))
 
 pub judge-spec : {M : Type 1} → statement M
-judge-spec = tie.close (tie.spec returns slice-aggregate-read-lines read-lines-requires returns-2)
+judge-spec = tie.close (tie.spec returns (λ c. search needs) (λ c κs. search needs) returns-2)

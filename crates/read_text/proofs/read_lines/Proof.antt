@@ -47,39 +47,30 @@ others c = linesIn (drop (c .next-line .result .next .0) (now (start-before-next
 -- what was to be read before the line is the whole
 before : (c : tie.After-next-line Inv-loop μ-loop) → let l = c .before .before .loop in
     stored (l .held .0) (l .block) (readLines (l .num) (l .held .0) (toCome (l .plan)) (line c ∷ others c)) ≡ stored 0 (now (start-before-next-line c .args .block)) (readLines 1 0 [] (linesIn (now (start-before-next-line c .args .text))))
-before c = let l = c .before .before .loop in ap (λ x. stored (l .held .0) (l .block) (readLines (l .num) (l .held .0) (toCome (l .plan)) x)) (sym (c .next-line .ensures .line .cut)) ∙ l .inv .same
+before c = let l = c .before .before .loop in ap (λ x. stored (l .held .0) (l .block) (readLines (l .num) (l .held .0) (toCome (l .plan)) x)) (sym (c .next-line .ensures .cut)) ∙ l .inv .same
 
 -- at the start nothing is held, and nothing is to come
 none-held : {rest : List Shape} → rest ≡ [] → 0 + wordsToCome rest ≤ 7998
 unfolding wordsToCome
 none-held e = rw e (omega arith)
 
-cards-only-requires : tie.Need-cards-only-requires Inv-loop μ-loop
-cards-only-requires c κs = tt
-
 loop-holds : tie.Need-loop-holds Inv-loop μ-loop
 loop-holds c = record { same = ap (λ r. stored 0 (now (c .before .before .before .args .block)) (readLines 1 0 r (linesIn (now (c .before .before .before .args .text))))) (c .cards-only .ensures); length-kept = refl; row-long = refl; lines-most = omega arith; room = none-held (c .cards-only .ensures) }
 
-next-line-requires : tie.Need-next-line-requires Inv-loop μ-loop
-next-line-requires c κs = search needs
-
 sub-read-line : tie.Need-sub-read-line Inv-loop μ-loop
-sub-read-line c = omega (arith, c .next-line .ensures .line .within)
+sub-read-line c = omega (arith, c .next-line .ensures .within)
 
 part-read-line-start : tie.Need-part-read-line-start Inv-loop μ-loop
-part-read-line-start c = c .next-line .ensures .line .within
+part-read-line-start c = c .next-line .ensures .within
 
 part-read-line-end : tie.Need-part-read-line-end Inv-loop μ-loop
-part-read-line-end c = omega (arith, c .next-line .ensures .line .ends, c .next-line .ensures .line .inside)
+part-read-line-end c = omega (arith, c .next-line .ensures .ends, c .next-line .ensures .inside)
 
 slice-aggregate-read-line : tie.Need-slice-aggregate-read-line Inv-loop μ-loop
 slice-aggregate-read-line c = sym (c .before .before .before .before .loop .inv .row-long)
 
 read-line-requires : tie.Need-read-line-requires Inv-loop μ-loop
 read-line-requires c κs = let g = c .before .before .before .before .before .loop .inv in (g .row-long, omega (arith, g .room), c .before .before .before .next-line .ensures .plain)
-
-enum-known-f : tie.Need-enum-known-f Inv-loop μ-loop
-enum-known-f c = search needs
 
 same-length : tie.Need-same-length Inv-loop μ-loop
 same-length c = let l = next-line-before-f (c .before) .before .before .loop in let kept-length : length (read-line-before-f (c .before) .read-line .last .1 .1 .1 .1 .1 .1 .0) ≡ length (l .block) = read-line-before-f (c .before) .read-line .kept .1 .1 .1 .1 .1 .1 .0 in kept-length ∙ l .inv .length-kept
@@ -88,14 +79,11 @@ returns : tie.Need-returns Inv-loop μ-loop
 returns c = let l = next-line-before-f (c .before) .before .before .loop in let b = read-line-before-f (c .before) .read-line .last .1 .1 .1 .1 .1 .1 .0 in
     sym (end (l .num) (l .held .0) (toCome (l .plan)) (line (next-line-before-f (c .before))) (others (next-line-before-f (c .before))) (l .block) b (c .before .f .given .0 .0) (ap (standOf b) (sym (c .before .f .given .1)) ∙ read-line-before-f (c .before) .read-line .ensures .is)) ∙ before (next-line-before-f (c .before))
 
-enum-known-p : tie.Need-enum-known-p Inv-loop μ-loop
-enum-known-p c = search needs
-
 add-num : tie.Need-add-num Inv-loop μ-loop
 add-num c = let g = next-line-before-p (c .before) .before .before .loop .inv in omega (arith, g .lines-most, next-line-before-p (c .before) .before .loop-test .taken, start-before-next-line (next-line-before-p (c .before)) .pre)
 
 loop-less : tie.Need-loop-less Inv-loop μ-loop
-loop-less c = omega (arith, next-line-before-p (c .before) .next-line .ensures .line .onward, next-line-before-p (c .before) .next-line .ensures .line .inside)
+loop-less c = omega (arith, next-line-before-p (c .before) .next-line .ensures .onward, next-line-before-p (c .before) .next-line .ensures .inside)
 
 loop-again : tie.Need-loop-again Inv-loop μ-loop
 loop-again c = let l = next-line-before-p (c .before) .before .before .loop in let g = l .inv in let b = read-line-before-p (c .before) .read-line .last .1 .1 .1 .1 .1 .1 .0 in let p = c .before .p .given .0 .0 in let n = c .before .p .given .0 .1 .0 in
@@ -105,12 +93,9 @@ loop-again c = let l = next-line-before-p (c .before) .before .before .loop in l
       same = sym (turn (l .num) (l .held .0) (toCome (l .plan)) (line (next-line-before-p (c .before))) (others (next-line-before-p (c .before))) (l .block) b p n (ap (standOf b) (sym (c .before .p .given .1)) ∙ read-line-before-p (c .before) .read-line .ensures .is)) ∙ before (next-line-before-p (c .before));
       length-kept = kept-block ∙ g .length-kept;
       row-long = kept-row ∙ g .row-long;
-      lines-most = omega (arith, g .lines-most, next-line-before-p (c .before) .next-line .ensures .line .onward);
+      lines-most = omega (arith, g .lines-most, next-line-before-p (c .before) .next-line .ensures .onward);
       room = room-next (l .num) (l .held .0) (toCome (l .plan)) (line (next-line-before-p (c .before))) (l .block) b p n (omega (arith, g .lines-most, next-line-before-p (c .before) .before .loop-test .taken, start-before-next-line (next-line-before-p (c .before)) .pre)) (g .room) (ap (standOf b) (sym (c .before .p .given .1)) ∙ read-line-before-p (c .before) .read-line .ensures .is);
     }
-
-at-end-requires : tie.Need-at-end-requires Inv-loop μ-loop
-at-end-requires c κs = tt
 
 same-length-2 : tie.Need-same-length-2 Inv-loop μ-loop
 same-length-2 c = c .before .before .loop .inv .length-kept
@@ -126,21 +111,21 @@ read-lines-spec =
     (tie.spec
     Inv-loop
     μ-loop
-    cards-only-requires
+    (λ c κs. tt)
     loop-holds
-    next-line-requires
+    (λ c κs. search needs)
     sub-read-line
     part-read-line-start
     part-read-line-end
     slice-aggregate-read-line
     read-line-requires
-    enum-known-f
+    (λ c. search needs)
     same-length
     returns
-    enum-known-p
+    (λ c. search needs)
     add-num
     loop-less
     loop-again
-    at-end-requires
+    (λ c κs. tt)
     same-length-2
     returns-2)

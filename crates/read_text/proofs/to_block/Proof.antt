@@ -6,35 +6,20 @@ use borrow.Author.Needs.{needs}
 use Rattle.read_text.proofs.to_block.Statement.{statement}
 use Rattle.read_text.proofs.to_block.Tie as tie
 
-judge-requires : tie.Need-judge-requires
-judge-requires c κs = search needs
-
-enum-known-f : tie.Need-enum-known-f
-enum-known-f c = search needs
-
-enum-known-n : tie.Need-enum-known-n
-enum-known-n c = search needs
-
 write-block-requires : tie.Need-write-block-requires
 write-block-requires c κs = ap contentOf (sym (c .before .before .n .given .1)) ∙ c .before .before .before .before .judge .ensures
 
 returns : tie.Need-returns
 returns c = let a = c .before .before .before .before .before .before .args in refused-is (now (a .text)) (now (a .block)) (c .before .f .given .0 .0) (ap contentOf (sym (c .before .f .given .1)) ∙ c .before .before .before .judge .ensures)
 
-same-length : tie.Need-same-length
-same-length c = search needs
-
-returns-2 : tie.Need-returns-2
-returns-2 c = search needs
-
 pub to-block-spec : {M : Type 1} → statement M
 to-block-spec =
     tie.close
     (tie.spec
-    judge-requires
-    enum-known-f
-    enum-known-n
+    (λ c κs. search needs)
+    (λ c. search needs)
+    (λ c. search needs)
     write-block-requires
     returns
-    same-length
-    returns-2)
+    (λ c. search needs)
+    (λ c. search needs))

@@ -45,9 +45,6 @@ seal-requires : tie.Need-seal-requires
 seal-requires c κs = let b = c .before .before .before .read-lines .last .1 .0 in let kept-length : length b ≡ length (now (start-before-bytes-of-words (bytes-of-words-before-block (c .before .before)) .args .block)) = c .before .before .before .read-lines .kept .1 .0 in
     (most (start-before-bytes-of-words (bytes-of-words-before-block (c .before .before))), omega (arith, kept-length, c .before .before .before .before .before .if1 .left, bytes-of-words-before-block (c .before .before) .bytes-of-words .ensures))
 
-same-length : tie.Need-same-length
-same-length c = search needs
-
 returns-2 : tie.Need-returns-2
 returns-2 c = let s = c .before .before .before .before .before .before .before .before .before .before .before .before .before in let a = given s in let t = now (s .args .text) in let b = now (s .args .block) in let n = s .args .records .0 in
     let room : (n + 2) * 2 ≤ length b = omega (arith, c .before .before .before .before .before .before .before .before .if1 .left, c .before .before .before .before .before .before .before .before .before .bytes-of-words .ensures) in
@@ -64,5 +61,5 @@ write-block-spec =
     returns
     read-lines-requires
     seal-requires
-    same-length
+    (λ c. search needs)
     returns-2)

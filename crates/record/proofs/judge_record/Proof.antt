@@ -4,32 +4,17 @@ use borrow.Author.Needs.{needs}
 use Rattle.record.proofs.judge_record.Statement.{statement}
 use Rattle.record.proofs.judge_record.Tie as tie
 
-count-requires : tie.Need-count-requires
-count-requires c κs = search needs
-
 returns : tie.Need-returns
 unfolding judgeRecord
 returns c = simp (← c .before .count .ensures, lt-ltb _ _ (c .if1 .taken))
-
-word-at-requires : tie.Need-word-at-requires
-word-at-requires c κs = search needs
-
-judge-cards-requires : tie.Need-judge-cards-requires
-judge-cards-requires c κs = search needs
 
 returns-2 : tie.Need-returns-2
 unfolding judgeRecord
 returns-2 c = simp (← c .before .before .before .before .count .ensures, le-ltb _ _ (c .before .before .before .if1 .left), ← c .before .before .word-at .ensures, eq-eqb _ _ (c .before .if2 .taken)) (c .judge-cards .ensures)
 
-judge-cards-requires-2 : tie.Need-judge-cards-requires-2
-judge-cards-requires-2 c κs = search needs
-
 returns-3 : tie.Need-returns-3
 unfolding judgeRecord
 returns-3 c = simp (← c .before .before .before .before .before .count .ensures, le-ltb _ _ (c .before .before .before .before .if1 .left), ← c .before .before .before .word-at .ensures, ne-eqb _ _ (c .before .before .if2 .left), eq-eqb _ _ (c .before .if3 .taken)) (c .judge-cards2 .ensures)
-
-judge-data-requires : tie.Need-judge-data-requires
-judge-data-requires c κs = search needs
 
 returns-4 : tie.Need-returns-4
 unfolding judgeRecord
@@ -43,13 +28,13 @@ pub judge-record-spec : {M : Type 1} → statement M
 judge-record-spec =
     tie.close
     (tie.spec
-    count-requires
+    (λ c κs. search needs)
     returns
-    word-at-requires
-    judge-cards-requires
+    (λ c κs. search needs)
+    (λ c κs. search needs)
     returns-2
-    judge-cards-requires-2
+    (λ c κs. search needs)
     returns-3
-    judge-data-requires
+    (λ c κs. search needs)
     returns-4
     returns-5)

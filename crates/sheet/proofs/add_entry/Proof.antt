@@ -1,5 +1,5 @@
 use borrow.Author.Needs.{needs}
-use Rattle.sheet.proofs.Entries.{added}
+use Rattle.sheet.proofs.Entries.{entry-added}
 use Rattle.sheet.proofs.Stores.{holds-size, holds-kept}
 use Rattle.sheet.proofs.add_entry.Statement.{statement}
 use Rattle.sheet.proofs.add_entry.Tie as tie
@@ -12,4 +12,4 @@ add-entry-spec =
     (λ c. search needs)
     (λ c κs. search holds-kept)
     (λ c. search needs)
-    (λ c. search added))
+    (λ c. search entry-added))

@@ -1,5 +1,5 @@
 use borrow.Author.Needs.{needs}
-use Rattle.sheet.proofs.Entries.{removed}
+use Rattle.sheet.proofs.Entries.{entry-cleared}
 use Rattle.sheet.proofs.Stores.{holds-size, holds-kept}
 use Rattle.sheet.proofs.clear_last.Statement.{statement}
 use Rattle.sheet.proofs.clear_last.Tie as tie
@@ -11,4 +11,4 @@ clear-last-spec =
     (λ c κs. search (holds-size, needs))
     (λ c κs. search holds-kept)
     (λ c. search needs)
-    (λ c. search removed))
+    (λ c. search entry-cleared))

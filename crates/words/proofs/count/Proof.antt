@@ -5,11 +5,8 @@ use borrow.Author.Needs.{needs}
 use Rattle.words.proofs.count.Statement.{statement}
 use Rattle.words.proofs.count.Tie as tie
 
-words-of-bytes-requires : tie.Need-words-of-bytes-requires
-words-of-bytes-requires c κs = search needs
-
 returns : tie.Need-returns
 returns c = c .words-of-bytes .ensures ∙ sym (length-wordsOf (now (c .before .before .args .part)))
 
 pub count-spec : {M : Type 1} → statement M
-count-spec = tie.close (tie.spec words-of-bytes-requires returns)
+count-spec = tie.close (tie.spec (λ c κs. search needs) returns)

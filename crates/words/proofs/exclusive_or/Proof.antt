@@ -16,21 +16,9 @@ Inv-loop part end x₀ i₀ x i = (i ≤ end) × (x < 2 ^ 16) × (swapped x ≡ 
 abbrev μ-loop : tie.MeasureT-loop
 μ-loop part end x₀ i₀ x i = end - i
 
-count-requires : tie.Need-count-requires Inv-loop μ-loop
-count-requires c κs = tt
-
 loop-holds : tie.Need-loop-holds Inv-loop μ-loop
 unfolding xorAll swapped
 loop-holds c = (omega arith, omega arith, refl)
-
-swapped-at-requires : tie.Need-swapped-at-requires Inv-loop μ-loop
-swapped-at-requires c κs = omega arith
-
-add-i : tie.Need-add-i Inv-loop μ-loop
-add-i c = omega arith
-
-loop-less : tie.Need-loop-less Inv-loop μ-loop
-loop-less c = omega arith
 
 loop-again : tie.Need-loop-again Inv-loop μ-loop
 loop-again c = let ws = wordsOf (now (c .before .before .before .before .before .args .part)) in
@@ -39,9 +27,6 @@ loop-again c = let ws = wordsOf (now (c .before .before .before .before .before 
     let hx : x < 2 ^ 16 = omega arith in
     let hw : w < 2 ^ 16 = omega arith in
     (omega arith, xor-lt 16 x w hx hw, fold-on ws (c .before .before .loop .i) x w hx hw (omega arith) (c .swapped-at .ensures) (c .before .before .loop .inv .2))
-
-swap-requires : tie.Need-swap-requires Inv-loop μ-loop
-swap-requires c κs = tt
 
 returns : tie.Need-returns Inv-loop μ-loop
 returns c = let ws = wordsOf (now (c .before .before .before .before .before .args .part)) in
@@ -53,11 +38,11 @@ exclusive-or-spec =
     (tie.spec
     Inv-loop
     μ-loop
-    count-requires
+    (λ c κs. tt)
     loop-holds
-    swapped-at-requires
-    add-i
-    loop-less
+    (λ c κs. omega arith)
+    (λ c. omega arith)
+    (λ c. omega arith)
     loop-again
-    swap-requires
+    (λ c κs. tt)
     returns)

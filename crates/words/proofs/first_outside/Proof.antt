@@ -17,27 +17,12 @@ Inv-loop part least most end i₀ i = (i ≤ end) × (passing (wordWithin least 
 abbrev μ-loop : tie.MeasureT-loop
 μ-loop part least most end i₀ i = end - i
 
-count-requires : tie.Need-count-requires Inv-loop μ-loop
-count-requires c κs = tt
-
 loop-holds : tie.Need-loop-holds Inv-loop μ-loop
 loop-holds c = (omega arith, sym (zero-add _))
-
-word-at-requires : tie.Need-word-at-requires Inv-loop μ-loop
-word-at-requires c κs = omega arith
-
-word-within-requires : tie.Need-word-within-requires Inv-loop μ-loop
-word-within-requires c κs = tt
 
 returns : tie.Need-returns Inv-loop μ-loop
 returns c = let w = c .before .before .word-at in let a = c .before .before .before .before .before .before .before .args in
     omega (arith, c .before .before .before .before .loop .inv .1, scan-stop (wordWithin (a .least) (a .most)) (wordsOf (now (a .part))) (c .before .before .before .before .loop .i) (w .result) (omega arith) (w .ensures) (sym (c .before .word-within .ensures) ∙ not-true _ (c .if1 .taken)))
-
-add-i : tie.Need-add-i Inv-loop μ-loop
-add-i c = omega arith
-
-loop-less : tie.Need-loop-less Inv-loop μ-loop
-loop-less c = omega arith
 
 loop-again : tie.Need-loop-again Inv-loop μ-loop
 loop-again c = let w = c .before .before .word-at in let a = c .before .before .before .before .before .before .before .args in
@@ -53,12 +38,12 @@ first-outside-spec =
     (tie.spec
     Inv-loop
     μ-loop
-    count-requires
+    (λ c κs. tt)
     loop-holds
-    word-at-requires
-    word-within-requires
+    (λ c κs. omega arith)
+    (λ c κs. tt)
     returns
-    add-i
-    loop-less
+    (λ c. omega arith)
+    (λ c. omega arith)
     loop-again
     returns-2)

@@ -13,12 +13,6 @@ bytes-of-words-requires c κs = omega (arith, c .before .pre .0, c .before .pre 
 bytes-of-words-requires-2 : tie.Need-bytes-of-words-requires-2
 bytes-of-words-requires-2 c κs = omega (arith, c .before .before .pre .1, length-wordsOf (now (c .before .before .args .whole)))
 
-sub-result : tie.Need-sub-result
-sub-result c = search needs
-
-part-result-start : tie.Need-part-result-start
-part-result-start c = search needs
-
 part-result-end : tie.Need-part-result-end
 part-result-end c = omega (arith, c .before .before .before .pre .1, length-wordsOf (now (c .before .before .before .args .whole)))
 
@@ -32,7 +26,7 @@ part-spec =
     (tie.spec
     bytes-of-words-requires
     bytes-of-words-requires-2
-    sub-result
-    part-result-start
+    (λ c. search needs)
+    (λ c. search needs)
     part-result-end
     returns)

@@ -13,29 +13,14 @@ put-word-before-exclusive-or c = c .before .before .before .before .before
 abbrev start-before-block2 : tie.After-block2 → tie.Start
 start-before-block2 c = put-word-before-exclusive-or (c .before .before .before) .before .before .before .before
 
-add-last : tie.Need-add-last
-add-last c = search needs
-
-add-all : tie.Need-add-all
-add-all c = search needs
-
-saying-words-requires : tie.Need-saying-words-requires
-saying-words-requires c κs = omega arith
-
 put-word-requires : tie.Need-put-word-requires
 put-word-requires c κs = omega (arith, length-wordsOf (now (c .before .before .before .args .block)), c .before .before .before .pre .1)
 
 part-requires : tie.Need-part-requires
 part-requires c κs = (omega arith, omega (arith, length-wordsOf (c .before .before .before .put-word .last .0), c .before .before .before .put-word .kept .0, c .before .before .before .before .before .before .before .pre .1))
 
-exclusive-or-requires : tie.Need-exclusive-or-requires
-exclusive-or-requires c κs = search needs
-
 put-word-requires-2 : tie.Need-put-word-requires-2
 put-word-requires-2 c κs = omega (arith, length-wordsOf (put-word-before-exclusive-or (c .before) .put-word .last .0), put-word-before-exclusive-or (c .before) .put-word .kept .0, put-word-before-exclusive-or (c .before) .before .before .before .before .pre .1)
-
-same-length : tie.Need-same-length
-same-length c = search needs
 
 returns : tie.Need-returns
 returns c = let w = put-word-before-exclusive-or (c .before .before .before .before) in let b = now (start-before-block2 (c .before) .args .block) in
@@ -45,12 +30,12 @@ pub seal-spec : {M : Type 1} → statement M
 seal-spec =
     tie.close
     (tie.spec
-    add-last
-    add-all
-    saying-words-requires
+    (λ c. search needs)
+    (λ c. search needs)
+    (λ c κs. omega arith)
     put-word-requires
     part-requires
-    exclusive-or-requires
+    (λ c κs. search needs)
     put-word-requires-2
-    same-length
+    (λ c. search needs)
     returns)

@@ -16,23 +16,8 @@ bytes-of-words-requires c κs = omega (arith, word-room (now (c .before .args .p
 shared-slice-read-wide : tie.Need-shared-slice-read-wide
 shared-slice-read-wide c = omega (arith, word-room (now (c .before .before .before .args .part)) (c .before .before .before .args .at .0) (c .before .before .before .pre))
 
-wide-requires : tie.Need-wide-requires
-wide-requires c κs = search needs
-
-add-wide : tie.Need-add-wide
-add-wide c = search needs
-
 shared-slice-read-wide-2 : tie.Need-shared-slice-read-wide-2
 shared-slice-read-wide-2 c = omega (arith, word-room (now (start-before-wide (c .before) .args .part)) (start-before-wide (c .before) .args .at .0) (start-before-wide (c .before) .pre))
-
-wide-requires-2 : tie.Need-wide-requires-2
-wide-requires-2 c κs = search needs
-
-mul-result : tie.Need-mul-result
-mul-result c = search needs
-
-add-result : tie.Need-add-result
-add-result c = search needs
 
 returns : tie.Need-returns
 unfolding swapped
@@ -45,10 +30,10 @@ swapped-at-spec =
     (tie.spec
     bytes-of-words-requires
     shared-slice-read-wide
-    wide-requires
-    add-wide
+    (λ c κs. search needs)
+    (λ c. search needs)
     shared-slice-read-wide-2
-    wide-requires-2
-    mul-result
-    add-result
+    (λ c κs. search needs)
+    (λ c. search needs)
+    (λ c. search needs)
     returns)

@@ -6,12 +6,6 @@ use borrow.Author.Needs.{needs}
 use Rattle.words.proofs.word_within.Statement.{statement}
 use Rattle.words.proofs.word_within.Tie as tie
 
-byte-within-requires : tie.Need-byte-within-requires
-byte-within-requires c κs = search needs
-
-byte-within-requires-2 : tie.Need-byte-within-requires-2
-byte-within-requires-2 c κs = search needs
-
 returns : tie.Need-returns
 unfolding wordWithin
 returns c = let a = c .before .before .before .args in
@@ -24,4 +18,4 @@ returns-2 c = let a = c .before .before .args in
 
 pub word-within-spec : {M : Type 1} → statement M
 word-within-spec =
-    tie.close (tie.spec byte-within-requires byte-within-requires-2 returns returns-2)
+    tie.close (tie.spec (λ c κs. search needs) (λ c κs. search needs) returns returns-2)

@@ -29,20 +29,11 @@ room c =
 loop-holds : tie.Need-loop-holds Inv-loop μ-loop
 loop-holds c = (omega arith, start)
 
-shared-slice-read-out : tie.Need-shared-slice-read-out Inv-loop μ-loop
-shared-slice-read-out c = omega arith
-
 slice-write-out : tie.Need-slice-write-out Inv-loop μ-loop
 slice-write-out c = room c
 
-add-i : tie.Need-add-i Inv-loop μ-loop
-add-i c = omega arith
-
 add-to : tie.Need-add-to Inv-loop μ-loop
 add-to c = omega (arith, room c, c .before .before .loop .inv .1 .kept)
-
-loop-less : tie.Need-loop-less Inv-loop μ-loop
-loop-less c = omega arith
 
 loop-again : tie.Need-loop-again Inv-loop μ-loop
 loop-again c = (omega arith, on (c .before .before .loop .inv .1) _ _ (turn c) (stored _ _ _))
@@ -60,11 +51,11 @@ write-bytes-spec =
     Inv-loop
     μ-loop
     loop-holds
-    shared-slice-read-out
+    (λ c. omega arith)
     slice-write-out
-    add-i
+    (λ c. omega arith)
     add-to
-    loop-less
+    (λ c. omega arith)
     loop-again
     same-length
     returns)

@@ -4,7 +4,6 @@ use Rattle.words.specs.Words.{wordsOf}
 use denote.Ref.{now}
 use native.Mathlib.Omega.{arith}
 use mathlib.Core.Path.{_∙_}
-use borrow.Author.Needs.{needs}
 use Rattle.write_lines.proofs.count_shown.Statement.{statement}
 use Rattle.write_lines.proofs.count_shown.Tie as tie
 

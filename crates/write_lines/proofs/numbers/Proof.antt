@@ -5,20 +5,8 @@ use borrow.Author.Needs.{needs}
 use Rattle.write_lines.proofs.numbers.Statement.{statement}
 use Rattle.write_lines.proofs.numbers.Tie as tie
 
-enum-known-l : tie.Need-enum-known-l
-enum-known-l c = search needs
-
 sized-requires : tie.Need-sized-requires
 sized-requires c κs = omega (arith, ap (λ x. linedOf x .a) (c .before .l .given .1))
-
-enum-known-l-2 : tie.Need-enum-known-l-2
-enum-known-l-2 c = search needs
-
-refusal-numbers-requires : tie.Need-refusal-numbers-requires
-refusal-numbers-requires c κs = search needs
-
-enum-known-l-3 : tie.Need-enum-known-l-3
-enum-known-l-3 c = search needs
 
 sized-requires-2 : tie.Need-sized-requires-2
 sized-requires-2 c κs = omega (arith, ap (λ x. linedOf x .a) (c .before .l3 .given .1))
@@ -36,11 +24,11 @@ pub numbers-spec : {M : Type 1} → statement M
 numbers-spec =
     tie.close
     (tie.spec
-    enum-known-l
+    (λ c. search needs)
     sized-requires
-    enum-known-l-2
-    refusal-numbers-requires
-    enum-known-l-3
+    (λ c. search needs)
+    (λ c κs. search needs)
+    (λ c. search needs)
     sized-requires-2
     returns
     returns-2

@@ -42,20 +42,11 @@ cards-bytes c = known (start-before-word-at (c .before)) .bytes ∙ cards-size (
 least : (c : tie.Else1) → 40 ≤ length (ws (start-before-word-at (c .before)))
 least c = is-cards (ws (start-before-word-at (c .before))) (start-before-word-at (c .before) .pre .0) (not-data c) .least
 
-count-requires : tie.Need-count-requires
-count-requires c κs = search needs
-
 line-count-requires : tie.Need-line-count-requires
 line-count-requires c κs = let k = ok-long (ws (c .before .before)) (c .before .before .pre .0) in omega arith
 
-ends-of-lines-requires : tie.Need-ends-of-lines-requires
-ends-of-lines-requires c κs = search needs
-
 word-at-requires : tie.Need-word-at-requires
 word-at-requires c κs = let k = ok-long (ws (c .before .before .before .before)) (c .before .before .before .before .pre .0) in omega arith
-
-columns-of-fields-requires : tie.Need-columns-of-fields-requires
-columns-of-fields-requires c κs = search needs
 
 add-size : tie.Need-add-size
 add-size c = omega (arith, data-bytes (c .before), known (start-before-word-at (c .before .before)) .bytes, known (start-before-word-at (c .before .before)) .size-most, c .columns-of-fields .ensures, c .before .before .before .ends-of-lines .ensures, c .before .before .before .before .line-count .ensures, c .before .before .before .before .before .count .ensures)
@@ -65,15 +56,6 @@ returns c = omega (arith, data-bytes (c .before), c .columns-of-fields .ensures,
 
 sub-behind : tie.Need-sub-behind
 sub-behind c = omega (arith, least (c .before), count-before-else1 (c .before) .count .ensures)
-
-columns-of-fields-requires-2 : tie.Need-columns-of-fields-requires-2
-columns-of-fields-requires-2 c κs = search needs
-
-bytes-of-words-requires : tie.Need-bytes-of-words-requires
-bytes-of-words-requires c κs = search needs
-
-add-size-2 : tie.Need-add-size-2
-add-size-2 c = search needs
 
 add-size-3 : tie.Need-add-size-3
 add-size-3 c = omega (arith, known (start-before-word-at (c .before .before .before .before)) .count-most, c .before .columns-of-fields2 .ensures, c .bytes-of-words .ensures, c .before .before .before .before .before .ends-of-lines .ensures, c .before .before .before .before .before .before .line-count .ensures, count-before-else1 (c .before .before .before) .count .ensures)
@@ -85,16 +67,16 @@ pub record-size-spec : {M : Type 1} → statement M
 record-size-spec =
     tie.close
     (tie.spec
-    count-requires
+    (λ c κs. search needs)
     line-count-requires
-    ends-of-lines-requires
+    (λ c κs. search needs)
     word-at-requires
-    columns-of-fields-requires
+    (λ c κs. search needs)
     add-size
     returns
     sub-behind
-    columns-of-fields-requires-2
-    bytes-of-words-requires
-    add-size-2
+    (λ c κs. search needs)
+    (λ c κs. search needs)
+    (λ c. search needs)
     add-size-3
     returns-2)

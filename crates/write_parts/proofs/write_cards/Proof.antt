@@ -66,12 +66,6 @@ slice-write-out c = omega (arith, end-room (c .before .before))
 add-to : tie.Need-add-to Inv-loop μ-loop
 add-to c = omega (arith, end-room (c .before .before), going (c .before .before) .kept)
 
-sub-left : tie.Need-sub-left Inv-loop μ-loop
-sub-left c = omega arith
-
-loop-less : tie.Need-loop-less Inv-loop μ-loop
-loop-less c = omega arith
-
 loop-again : tie.Need-loop-again Inv-loop μ-loop
 loop-again c = (room (c .before .before .before .before .before) .1, on (going (c .before .before)) (10 ∷ []) (others (c .before .before .before .before)) refl (stored _ _ 10))
 
@@ -93,8 +87,8 @@ write-cards-spec =
     write-bytes-requires
     slice-write-out
     add-to
-    sub-left
-    loop-less
+    (λ c. omega arith)
+    (λ c. omega arith)
     loop-again
     same-length
     returns)

@@ -35,23 +35,14 @@ room c = omega (arith, fits (c .before .before .before .loop .inv .1) (fieldOf (
 loop-holds : tie.Need-loop-holds Inv-loop μ-loop
 loop-holds c = (c .before .before .pre .0, start)
 
-word-at-requires : tie.Need-word-at-requires Inv-loop μ-loop
-word-at-requires c κs = omega arith
-
 write-field-requires : tie.Need-write-field-requires Inv-loop μ-loop
 write-field-requires c κs = room c
 
 add-place : tie.Need-add-place Inv-loop μ-loop
 add-place c = omega (arith, length-wordsOf (now (start-before-word-at (c .before .before .before) .args .whole)))
 
-sub-left : tie.Need-sub-left Inv-loop μ-loop
-sub-left c = omega arith
-
 add-to : tie.Need-add-to Inv-loop μ-loop
 add-to c = omega (arith, room (c .before .before .before), c .before .before .before .before .before .before .loop .inv .1 .kept)
-
-loop-less : tie.Need-loop-less Inv-loop μ-loop
-loop-less c = omega arith
 
 loop-again : tie.Need-loop-again Inv-loop μ-loop
 loop-again c = let l = c .before .before .before .before .before .before .loop in
@@ -70,12 +61,12 @@ write-fields-spec =
     Inv-loop
     μ-loop
     loop-holds
-    word-at-requires
+    (λ c κs. omega arith)
     write-field-requires
     add-place
-    sub-left
+    (λ c. omega arith)
     add-to
-    loop-less
+    (λ c. omega arith)
     loop-again
     same-length
     returns)

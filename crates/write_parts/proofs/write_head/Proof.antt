@@ -41,15 +41,6 @@ going-3 : (c : tie.After-write-field2) → let a = start-before-write-field (wri
     Going (now (a .out)) (a .at .0) (fieldsOf (take (a .fields .0) (a .lines ∷ (a .kind ∷ drop 2 (wordsOf (now (a .whole)))))) ++ (10 ∷ [])) (c .write-field2 .last .0) (a .at .0 + 6 + 6) (words-behind (start-before-write-field (write-field-before-write-field2 c)))
 going-3 c = on (going-2 (write-field-before-write-field2 c)) _ _ refl (field-put _ _ _ (c .write-field2 .ensures))
 
-add-second : tie.Need-add-second
-add-second c = search needs
-
-add-third : tie.Need-add-third
-add-third c = search needs
-
-sub-count : tie.Need-sub-count
-sub-count c = search needs
-
 write-field-requires : tie.Need-write-field-requires
 write-field-requires c κs = let a = c .before .before .before .before .args in omega (arith, fits (going (c .before .before .before .before)) (fieldOf (a .lines)) _ refl (c .before .before .before .before .pre .2), length-fieldOf (a .lines))
 
@@ -59,9 +50,6 @@ write-field-requires-2 c κs = let a = start-before-write-field (c .before .befo
 write-line-requires : tie.Need-write-line-requires
 write-line-requires c κs = (omega arith, omega (arith, going-3 (c .before .before .before) .total, going-3 (c .before .before .before) .kept, start-before-write-field (write-field-before-write-field2 (c .before .before .before)) .pre .2))
 
-same-length : tie.Need-same-length
-same-length c = search needs
-
 returns : tie.Need-returns
 returns c = done (on (going-3 (write-field2-before-out3 (c .before))) (words-behind (start-before-write-field (write-field-before-write-field2 (write-field2-before-out3 (c .before))))) [] (sym (append-nil (words-behind (start-before-write-field (write-field-before-write-field2 (write-field2-before-out3 (c .before))))))) (c .before .before .write-line .ensures)) refl
 
@@ -69,11 +57,11 @@ pub write-head-spec : {M : Type 1} → statement M
 write-head-spec =
     tie.close
     (tie.spec
-    add-second
-    add-third
-    sub-count
+    (λ c. search needs)
+    (λ c. search needs)
+    (λ c. search needs)
     write-field-requires
     write-field-requires-2
     write-line-requires
-    same-length
+    (λ c. search needs)
     returns)

@@ -35,12 +35,9 @@ slice-write-out c = omega (arith, room (c .before .before))
 add-next : tie.Need-add-next
 add-next c = omega (arith, room (c .before .before), going (c .before .before) .kept)
 
-same-length : tie.Need-same-length
-same-length c = search needs
-
 returns : tie.Need-returns
 returns c = done (on (going (c .before .before)) (10 ∷ []) [] refl (stored _ _ 10)) refl
 
 pub write-line-spec : {M : Type 1} → statement M
 write-line-spec =
-    tie.close (tie.spec write-fields-requires slice-write-out add-next same-length returns)
+    tie.close (tie.spec write-fields-requires slice-write-out add-next (λ c. search needs) returns)

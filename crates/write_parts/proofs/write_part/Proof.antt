@@ -40,9 +40,6 @@ some c = let e = c .on-line .ensures in (omega arith, omega arith)
 loop-holds : tie.Need-loop-holds Inv-loop μ-loop
 loop-holds c = (c .before .before .pre .0, start)
 
-on-line-requires : tie.Need-on-line-requires Inv-loop μ-loop
-on-line-requires c κs = tt
-
 write-line-requires : tie.Need-write-line-requires Inv-loop μ-loop
 write-line-requires c κs = let m = some (c .before) in (omega arith, fits (c .before .before .before .loop .inv .1) (line (c .before)) (others (c .before)) (turn (c .before)) (start-before-loop (c .before .before .before) .pre .1))
 
@@ -71,7 +68,7 @@ write-part-spec =
     Inv-loop
     μ-loop
     loop-holds
-    on-line-requires
+    (λ c κs. tt)
     write-line-requires
     add-place
     sub-left

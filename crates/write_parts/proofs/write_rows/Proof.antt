@@ -50,12 +50,6 @@ write-part-requires c κs = (omega (arith, behind (c .before)), fits (c .before 
 add-place : tie.Need-add-place Inv-loop μ-loop
 add-place c = omega (arith, behind (c .before .before .before .before), length-wordsOf (now (start-before-turn (c .before .before .before .before) .args .whole)))
 
-sub-left : tie.Need-sub-left Inv-loop μ-loop
-sub-left c = omega arith
-
-loop-less : tie.Need-loop-less Inv-loop μ-loop
-loop-less c = omega arith
-
 loop-again : tie.Need-loop-again Inv-loop μ-loop
 loop-again c = (behind (c .before .before .before .before), on (c .before .before .before .before .before .loop .inv .1) _ _ (turn (c .before .before .before .before)) (c .before .before .write-part .ensures))
 
@@ -75,8 +69,8 @@ write-rows-spec =
     loop-holds
     write-part-requires
     add-place
-    sub-left
-    loop-less
+    (λ c. omega arith)
+    (λ c. omega arith)
     loop-again
     same-length
     returns-2)
