@@ -9,7 +9,7 @@ ghost use mathlib.Core.Path.{_≡_};
 ghost use Prim.Native.Nat.{_+_, _≤_, _<_};
 ghost use lib.ListN.{length};
 ghost use Rattle.units.specs.Answers.{answered, onward};
-ghost use Rattle.words.specs.Words.{wordsOf, Below};
+ghost use Rattle.words.specs.Words.{wordsOf, Below, mostWords};
 ghost use Rattle.record.specs.Rules.{RecordOk};
 ghost use Rattle.block.specs.Judging.{judged, Accepted};
 ghost use Rattle.block.specs.Records.{recordsOf};
@@ -47,7 +47,7 @@ pub enum Spot {
 
 // Word `word` of a good record with `at` words of the block before it, if it may be amended and is `value`.
 fn value_in(whole: &[u8], at: Words, word: u16, value: u16) -> Spot
-    requires { ⌜ RecordOk (wordsOf (now whole)) × (at .0 ≤ 8000) ⌝ }
+    requires { ⌜ RecordOk (wordsOf (now whole)) × (at .0 ≤ mostWords) ⌝ }
     ensures { λ r. ⌜ spotOf r ≡ valueIn (wordsOf (now (whole .entry))) (at .0) word value ⌝ }
 {
     let number = units::words_said(word);

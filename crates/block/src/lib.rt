@@ -26,7 +26,7 @@ pub enum Judged {
     Refused(Refusal),
 }
 
-// The next record, with so many words of the block before it and so many of its own; or no more.
+// The next record, by the words of the block before it and its own; or no more.
 pub enum Place {
     Record(Words, Words),
     NoMore,

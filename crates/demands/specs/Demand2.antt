@@ -6,7 +6,7 @@ use mathlib.Core.List.{List, _++_}
 use Prim.Native.Nat.{ℕ, _≤_}
 use lib.ListN.{length, take, drop}
 use Rattle.units.specs.Answers.{answer, passed}
-use Rattle.words.specs.Words.{bytesOf, joined, framed, All, Below}
+use Rattle.words.specs.Words.{bytesOf, joined, framed, All, Below, mostRecordWords}
 use Rattle.words.specs.Outcomes.{Written, leaves}
 use Rattle.record.specs.Rules.{RecordOk}
 use Rattle.block.specs.Judging.{judged, Accepted}
@@ -46,7 +46,7 @@ standard ws = textOf (recordsOf (blockFrom ws))
 
 -- the lines of good records are read as the records' words
 abbrev pub LinesRead : Type 0
-LinesRead = (rs : List (List ℕ)) → All RecordOk rs → 1 ≤ length rs → length (joined rs) ≤ 7998 → readText (textOf rs) ≡ passed (joined rs)
+LinesRead = (rs : List (List ℕ)) → All RecordOk rs → 1 ≤ length rs → length (joined rs) ≤ mostRecordWords → readText (textOf rs) ≡ passed (joined rs)
 
 -- block to lines to block is the identity
 abbrev pub BlockLinesBlock : Type 0

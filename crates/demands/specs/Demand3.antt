@@ -115,7 +115,7 @@ pub record MayAmend (y : Layout) (rs : List (List ℕ)) (es : List Entry) (e : E
   pub value : isValue (recordIn rs (recordNumber e)) (wordNumber e) ≡ true
   pub old : found (putIn rs es) e ≡ oldValue e
 
--- ---- the demand, from an accepted block of so many records and an empty sheet
+-- ---- the demand, from an accepted block of k records and an empty sheet
 
 -- the rule of acceptance: amend succeeds exactly when `MayAmend` holds, and its entry then stands last; undo exactly when an entry stands, and it takes the last
 abbrev pub ModelRule : Type 0
@@ -156,7 +156,7 @@ LastStands =
 abbrev pub bytesBefore : List (List ℕ) → Entry → ℕ
 bytesBefore rs e = length (textOf (take (recordNumber e - 1) rs)) + columnsBefore (recordIn rs (recordNumber e)) (wordNumber e - 1)
 
--- a byte that is none of the six behind so many
+-- a byte that is none of the six from `before` on
 abbrev pub Outside : ℕ → ℕ → Type 0
 Outside i before = (i < before) ⊎ (before + 6 ≤ i)
 

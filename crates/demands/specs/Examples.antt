@@ -47,7 +47,7 @@ linesFound rs (refused r) = []
 abbrev pub foundOf : List ℕ → Found
 foundOf b = record { judged-as = judgeAnswer b; lined-as = toLines b [] .answer; lines = linesFound (recordsOf b) (judged b) }
 
--- the bytes of K, and of a sheet of so many entries with these bytes: "Entries past the count are zero"
+-- the bytes of K, and of a sheet of `count` entries with these bytes: "Entries past the count are zero"
 abbrev pub bytesK : List ℕ
 bytesK = bytesOf (blockK 2 900 33020)
 

@@ -5,7 +5,7 @@ use mathlib.Core.List.{List}
 use Prim.Native.Nat.{ℕ, _≤_}
 use lib.ListN.{length}
 use Rattle.units.specs.Answers.{passed}
-use Rattle.words.specs.Words.{joined, All}
+use Rattle.words.specs.Words.{joined, All, mostRecordWords}
 use Rattle.record.specs.Rules.{RecordOk}
 use Rattle.read_cut.specs.Lines.{linesIn}
 use Rattle.read_text.specs.Block.{readText}
@@ -18,7 +18,7 @@ pub record IsText (t : List ℕ) (rs : List (List ℕ)) : Type 0 where
   pub spelled : Spelled (linesIn t) rs
   pub each : All RecordOk rs
   pub some : 1 ≤ length rs
-  pub most : length (joined rs) ≤ 7998
+  pub most : length (joined rs) ≤ mostRecordWords
 
 -- a text is accepted exactly when it is one of good records, and then it is read as their words
 abbrev pub TextsExactly : Type 0

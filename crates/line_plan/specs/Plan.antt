@@ -9,7 +9,7 @@ use Rattle.record.specs.declared.Counts.{Counts}
 use Rattle.record.specs.Counts.{countsOf}
 use Rattle.record.specs.Lines.{lineCount}
 
--- a last line of so many fields; "a part with no fields takes no line"
+-- a last line of n fields; "a part with no fields takes no line"
 abbrev pub shorter : ℕ → List ℕ
 shorter zero = []
 shorter (suc n) = suc n ∷ []
@@ -18,7 +18,7 @@ shorter (suc n) = suc n ∷ []
 unfoldable pub part : ℕ → List ℕ
 part n = replicate (n / 20) 20 ++ shorter (n % 20)
 
--- so many parts of the same lines
+-- k parts of the same lines
 unfoldable pub times : ℕ → List ℕ → List ℕ
 times zero ns = []
 times (suc k) ns = ns ++ times k ns

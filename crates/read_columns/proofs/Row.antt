@@ -21,7 +21,7 @@ pub fill-done : (num : ℕ) (l : List ℕ) (k m : ℕ) (row : List ℕ) → m �
 unfolding filled numbers
 fill-done num l k m row e = rw (e, append-nil)
 
--- the field behind so many columns holds this number
+-- the field behind `at` columns holds this number
 module _ (num : ℕ) (l : List ℕ) (k : ℕ) (n : Number) (at : ℕ) (e : at ≡ 6 * k) (r : n ≡ readField (columns 6 l at)) where
   pub number-is : number num l k ≡ wordIn num k n
   unfolding number

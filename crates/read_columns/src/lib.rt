@@ -33,7 +33,7 @@ pub enum Checked {
     Flawed(Flaw),
 }
 
-// The columns before the first that is past 120 or not plain, of a line that begins with so many plain bytes.
+// The columns before the first that is past 120 or not plain, of a line that begins with `plain` plain bytes.
 pub fn plain_to(line: &[u8], plain: Bytes) -> Bytes
     requires { ⌜ plain .0 ≡ plainIn (now line) ⌝ }
     ensures { λ r. ⌜ r .0 ≡ plainTo (now (line .entry)) ⌝ }

@@ -7,7 +7,7 @@ use lib.ListN.{length, drop, replicate}
 use Rattle.units.specs.Choice.{if_then_else_}
 use Rattle.units.specs.Units.{Line, wordsOfCards, columnsOfFields}
 use Rattle.units.specs.Answers.{answer, Verdict, passed, refused, onward}
-use Rattle.words.specs.Words.{word}
+use Rattle.words.specs.Words.{word, mostRecordWords}
 use Rattle.record.specs.declared.Counts.{Counts}
 use Rattle.record.specs.Counts.{countsOf, wordsNeeded, linesNeeded, inRange}
 use Rattle.line_plan.specs.Plan.{plan}
@@ -80,13 +80,13 @@ firstFields num l = onward (numbers num l 0 12) (λ first. kindFields num l firs
 unfoldable pub cardsRoom : ℕ → ℕ → ℕ → Verdict (Unit {0})
 cardsRoom num held lines =
     if ltb lines 1 || ltb 199 lines then refused (answer 24 num 1 0)
-    else if ltb 7998 (held + wordsOfCards lines) then refused (answer 28 num 1 0)
+    else if ltb mostRecordWords (held + wordsOfCards lines) then refused (answer 28 num 1 0)
     else passed tt
 
 -- "Data gives 28, then 24"
 unfoldable pub dataRoom : ℕ → ℕ → ℕ → Counts → Verdict (Unit {0})
 dataRoom num held lines c =
-    if ltb 7998 (held + wordsNeeded c) then refused (answer 28 num 1 0)
+    if ltb mostRecordWords (held + wordsNeeded c) then refused (answer 28 num 1 0)
     else if not (eqb lines (linesNeeded c)) then refused (answer 24 num 1 0)
     else passed tt
 

@@ -9,6 +9,7 @@ ghost use mathlib.Core.List.{_∷_, _++_, map};
 ghost use Prim.Native.Nat.{_-_, _≤_, _<_, min};
 ghost use lib.ListN.{length, getD, take, drop, replicate};
 ghost use lib.Seq.{slice};
+ghost use Rattle.words.specs.Words.{mostRecordWords};
 ghost use Rattle.units.specs.Units.{columnsOfFields};
 ghost use Rattle.units.specs.Answers.{passed, onward};
 ghost use Rattle.read_columns.specs.Columns.{blankAfter, zeros};
@@ -18,7 +19,7 @@ ghost use Rattle.read_columns.specs.Cases.{checkedOf};
 ghost use Rattle.read_first_line.specs.FirstLine.{card, fields, cards, counts, countsIn, countFields, catalogueFields, headerFields, prologueFields, dataFields, kindFields, firstFields, cardsRoom, dataRoom, cardsGiven, dataGiven, headLine, firstLine};
 ghost use Rattle.read_first_line.specs.State.{toCome, Stepped, put, headOf};
 
-// What is to come of a record: cards; or fields of the present part, then so many 1-D parts and so many 2-D rows.
+// What is to come of a record: cards; or fields of the present part, then `singles` 1-D parts and `rows` 2-D rows.
 pub struct Plan {
     pub cards: Lines,
     pub left: Words,
@@ -190,7 +191,7 @@ fn first_fields(num: Lines, line: &[u8], row: &mut [u16]) -> Opening
 
 // Puts a record's first words: LTOT, its kind, and the fields of its first line from field 3 on.
 fn put_head(total: Words, kind: u16, used: Words, row: &[u16], block: &mut [u8], held: Words)
-    requires { ⌜ (total .0 < 65536) × (used .0 ≤ length (now row)) × (used .0 ≤ 20) × (held .0 ≤ 7998) ⌝ }
+    requires { ⌜ (total .0 < 65536) × (used .0 ≤ length (now row)) × (used .0 ≤ 20) × (held .0 ≤ mostRecordWords) ⌝ }
     ensures { λ _. ⌜ now (block .exit) ≡ put (held .0) (now (block .entry)) (total .0 ∷ (kind ∷ slice 2 (used .0) (now (row .entry)))) ⌝ }
 {
     let first = held.0 + 1;
@@ -203,7 +204,7 @@ fn put_head(total: Words, kind: u16, used: Words, row: &[u16], block: &mut [u8],
 
 // Puts the 40 words of a Catalogue's or a Header's first line: what its fields do not give is zero.
 fn put_cards_head(total: Words, kind: u16, used: Words, row: &[u16], block: &mut [u8], held: Words)
-    requires { ⌜ (total .0 < 65536) × (2 ≤ used .0) × (used .0 ≤ 20) × (length (now row) ≡ 20) × (held .0 ≤ 7998) ⌝ }
+    requires { ⌜ (total .0 < 65536) × (2 ≤ used .0) × (used .0 ≤ 20) × (length (now row) ≡ 20) × (held .0 ≤ mostRecordWords) ⌝ }
     ensures { λ _. ⌜ now (block .exit) ≡ put (held .0) (now (block .entry)) (total .0 ∷ (kind ∷ slice 2 (used .0) (now (row .entry))) ++ replicate (40 - used .0) 0) ⌝ }
 {
     let n = used.0;
@@ -217,7 +218,7 @@ fn put_cards_head(total: Words, kind: u16, used: Words, row: &[u16], block: &mut
 
 // A Catalogue's or a Header's stated line count may stand, and there is room for that many.
 fn cards_room(num: Lines, held: Words, stated: u16) -> Checked
-    requires { ⌜ held .0 ≤ 7998 ⌝ }
+    requires { ⌜ held .0 ≤ mostRecordWords ⌝ }
     ensures { λ r. ⌜ checkedOf tt r ≡ cardsRoom (num .0) (held .0) stated ⌝ }
 {
     let before = held.0;
@@ -228,7 +229,7 @@ fn cards_room(num: Lines, held: Words, stated: u16) -> Checked
         return Checked::Flawed(Flaw::Count(num));
     }
     let all = before + units::words_of_cards(units::lines_said(stated)).0;
-    if 7998 < all {
+    if words::MOST_RECORD_WORDS < all {
         return Checked::Flawed(Flaw::Much(num));
     }
     Checked::Good
@@ -236,7 +237,7 @@ fn cards_room(num: Lines, held: Words, stated: u16) -> Checked
 
 // Puts the words of a Catalogue's or a Header's first line.
 fn put_cards(kind: u16, held: Words, used: Words, row: &[u16], block: &mut [u8]) -> Step
-    requires { ⌜ (2 ≤ used .0) × (used .0 ≤ 20) × (length (now row) ≡ 20) × (1 ≤ getD (now row) 0 0) × (getD (now row) 0 0 ≤ 199) × (held .0 ≤ 7998) ⌝ }
+    requires { ⌜ (2 ≤ used .0) × (used .0 ≤ 20) × (length (now row) ≡ 20) × (1 ≤ getD (now row) 0 0) × (getD (now row) 0 0 ≤ 199) × (held .0 ≤ mostRecordWords) ⌝ }
     ensures { λ r. ⌜ Stepped (held .0) (now (block .entry)) (cardsGiven kind (take (used .0) (now (row .entry)))) (now (block .exit)) r ⌝ }
 {
     let lines = units::lines_said(row[0]);
@@ -255,7 +256,7 @@ fn cards_line(
     row: &[u16],
     block: &mut [u8],
 ) -> Step
-    requires { ⌜ (2 ≤ used .0) × (used .0 ≤ 20) × (length (now row) ≡ 20) × (held .0 ≤ 7998) ⌝ }
+    requires { ⌜ (2 ≤ used .0) × (used .0 ≤ 20) × (length (now row) ≡ 20) × (held .0 ≤ mostRecordWords) ⌝ }
     ensures { λ r. ⌜ Stepped (held .0) (now (block .entry)) (headLine (num .0) (held .0) (cards kind (take (used .0) (now (row .entry))))) (now (block .exit)) r ⌝ }
 {
     match cards_room(num, held, row[0]) {
@@ -266,12 +267,12 @@ fn cards_line(
 
 // There is room for a Data record with these counts, and its stated line count is what they need.
 fn data_room(num: Lines, held: Words, lines: u16, c: Counts) -> Checked
-    requires { ⌜ held .0 ≤ 7998 ⌝ }
+    requires { ⌜ held .0 ≤ mostRecordWords ⌝ }
     ensures { λ r. ⌜ checkedOf tt r ≡ dataRoom (num .0) (held .0) lines c ⌝ }
 {
     let before = held.0;
     let all = before + record::words_needed(c).0;
-    if 7998 < all {
+    if words::MOST_RECORD_WORDS < all {
         return Checked::Flawed(Flaw::Much(num));
     }
     if lines as usize != record::lines_needed(c).0 {
@@ -299,7 +300,7 @@ fn data_plan(used: Words, c: Counts) -> Plan
 
 // Puts the words of a Data record's first line, whose first `used` fields count.
 fn put_data(held: Words, used: Words, row: &[u16], block: &mut [u8]) -> Step
-    requires { ⌜ (used .0 ≡ min (getD (now row) 12 0) 20) × (16 ≤ used .0) × (length (now row) ≡ 20) × (wordsNeeded (countsOf (now row)) ≤ 7998) × (held .0 ≤ 7998) ⌝ }
+    requires { ⌜ (used .0 ≡ min (getD (now row) 12 0) 20) × (16 ≤ used .0) × (length (now row) ≡ 20) × (wordsNeeded (countsOf (now row)) ≤ mostRecordWords) × (held .0 ≤ mostRecordWords) ⌝ }
     ensures { λ r. ⌜ Stepped (held .0) (now (block .entry)) (dataGiven (take (used .0) (now (row .entry)))) (now (block .exit)) r ⌝ }
 {
     let c = row_counts(row);
@@ -317,7 +318,7 @@ fn put_data(held: Words, used: Words, row: &[u16], block: &mut [u8]) -> Step
 
 // A Data record whose counts are in range.
 fn data_line(num: Lines, held: Words, row: &[u16], block: &mut [u8]) -> Step
-    requires { ⌜ (16 ≤ getD (now row) 12 0) × (length (now row) ≡ 20) × (held .0 ≤ 7998) ⌝ }
+    requires { ⌜ (16 ≤ getD (now row) 12 0) × (length (now row) ≡ 20) × (held .0 ≤ mostRecordWords) ⌝ }
     ensures { λ r. ⌜ Stepped (held .0) (now (block .entry)) (headLine (num .0) (held .0) (counts (take (min (getD (now (row .entry)) 12 0) 20) (now (row .entry))))) (now (block .exit)) r ⌝ }
 {
     let used = line_plan::on_line(units::words_said(row[12]));
@@ -329,7 +330,7 @@ fn data_line(num: Lines, held: Words, row: &[u16], block: &mut [u8]) -> Step
 
 // A record's first line: its fields, then its counts.
 pub fn first_line(num: Lines, held: Words, line: &[u8], row: &mut [u16], block: &mut [u8]) -> Step
-    requires { ⌜ (length (now row) ≡ 20) × (held .0 ≤ 7998) ⌝ }
+    requires { ⌜ (length (now row) ≡ 20) × (held .0 ≤ mostRecordWords) ⌝ }
     ensures { λ r. ⌜ Stepped (held .0) (now (block .entry)) (firstLine (num .0) (held .0) (now (line .entry))) (now (block .exit)) r ⌝ }
 {
     match first_fields(num, line, row) {

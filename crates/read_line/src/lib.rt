@@ -10,7 +10,7 @@ ghost use mathlib.Core.Path.{_≡_};
 ghost use mathlib.Core.List.{[], _∷_};
 ghost use Prim.Native.Nat.{_≤_, _<_, min};
 ghost use lib.ListN.{length, take};
-ghost use Rattle.words.specs.Words.{wordsOf};
+ghost use Rattle.words.specs.Words.{wordsOf, mostRecordWords};
 ghost use Rattle.words.specs.Scans.{plainIn};
 ghost use Rattle.line_plan.specs.Plan.{part, times};
 ghost use Rattle.field.specs.Reading.{columns};
@@ -79,7 +79,7 @@ fn next_row(p: Plan) -> Plan
 
 // Puts the 80 columns of a card: those that the line lacks are blank.
 fn put_card(line: &[u8], block: &mut [u8], held: Words)
-    requires { ⌜ held .0 ≤ 7998 ⌝ }
+    requires { ⌜ held .0 ≤ mostRecordWords ⌝ }
     ensures { λ _. ⌜ now (block .exit) ≡ put (held .0) (now (block .entry)) (wordsOf (columns 80 (now (line .entry)) 0)) ⌝ }
 {
     let first = held.0 + 1;
@@ -97,7 +97,7 @@ fn put_card(line: &[u8], block: &mut [u8], held: Words)
 
 // A card.
 fn card_line(p: Plan, num: Lines, held: Words, line: &[u8], block: &mut [u8]) -> Step
-    requires { ⌜ (0 < p .cards .0) × (held .0 ≤ 7998) ⌝ }
+    requires { ⌜ (0 < p .cards .0) × (held .0 ≤ mostRecordWords) ⌝ }
     ensures { λ r. ⌜ Stepped (held .0) (now (block .entry)) (inState (num .0) (held .0) (toCome p) (now (line .entry))) (now (block .exit)) r ⌝ }
 {
     let behind = held.0 + 40;
@@ -111,6 +111,22 @@ fn card_line(p: Plan, num: Lines, held: Words, line: &[u8], block: &mut [u8]) ->
     }
 }
 
+// The plan with these cards and these fields of the present part to come.
+fn with_left(p: Plan, cards: Lines, left: Words) -> Plan
+    ensures { λ r. ⌜ r ≡ record { cards = cards; left = left; singles = p .singles; jpar = p .jpar; rows = p .rows; mpar = p .mpar } ⌝ }
+{
+    let jpar = p.jpar.0;
+    let mpar = p.mpar.0;
+    Plan {
+        cards,
+        left,
+        singles: p.singles,
+        jpar: Words(jpar),
+        rows: p.rows,
+        mpar: Words(mpar),
+    }
+}
+
 // What is to come after a card.
 fn one_card_less(p: Plan) -> Plan
     requires { ⌜ 0 < p .cards .0 ⌝ }
@@ -118,16 +134,7 @@ fn one_card_less(p: Plan) -> Plan
 {
     let cards = p.cards.0 - 1;
     let left = p.left.0;
-    let jpar = p.jpar.0;
-    let mpar = p.mpar.0;
-    Plan {
-        cards: Lines(cards),
-        left: Words(left),
-        singles: p.singles,
-        jpar: Words(jpar),
-        rows: p.rows,
-        mpar: Words(mpar),
-    }
+    with_left(p, Lines(cards), Words(left))
 }
 
 // The fields of a later line of a Data record, and nothing behind them.
@@ -150,7 +157,7 @@ fn fields_line(
     row: &mut [u16],
     block: &mut [u8],
 ) -> Step
-    requires { ⌜ (p .cards .0 ≡ 0) × (0 < p .left .0) × (length (now row) ≡ 20) × (held .0 ≤ 7998) ⌝ }
+    requires { ⌜ (p .cards .0 ≡ 0) × (0 < p .left .0) × (length (now row) ≡ 20) × (held .0 ≤ mostRecordWords) ⌝ }
     ensures { λ r. ⌜ Stepped (held .0) (now (block .entry)) (inState (num .0) (held .0) (toCome p) (now (line .entry))) (now (block .exit)) r ⌝ }
 {
     let left = p.left.0;
@@ -173,28 +180,12 @@ fn one_line_less(p: Plan, count: Words) -> Plan
     ensures { λ r. ⌜ toCome p ≡ fields (count .0) ∷ toCome r ⌝ }
 {
     let left = p.left.0 - count.0;
-    let jpar = p.jpar.0;
-    let mpar = p.mpar.0;
-    Plan {
-        cards: Lines(0),
-        left: Words(left),
-        singles: p.singles,
-        jpar: Words(jpar),
-        rows: p.rows,
-        mpar: Words(mpar),
-    }
+    with_left(p, Lines(0), Words(left))
 }
 
 // A line where a record may begin: a blank one, or a record's first.
-fn open_line(
-    p: Plan,
-    num: Lines,
-    held: Words,
-    line: &[u8],
-    row: &mut [u16],
-    block: &mut [u8],
-) -> Step
-    requires { ⌜ (toCome p ≡ []) × (length (now row) ≡ 20) × (held .0 ≤ 7998) ⌝ }
+fn between(p: Plan, num: Lines, held: Words, line: &[u8], row: &mut [u16], block: &mut [u8]) -> Step
+    requires { ⌜ (toCome p ≡ []) × (length (now row) ≡ 20) × (held .0 ≤ mostRecordWords) ⌝ }
     ensures { λ r. ⌜ Stepped (held .0) (now (block .entry)) (inState (num .0) (held .0) [] (now (line .entry))) (now (block .exit)) r ⌝ }
 {
     if read_columns::blank_line(line) {
@@ -204,28 +195,21 @@ fn open_line(
 }
 
 // Any line that row 20 accepts.
-fn in_state(
-    plan: Plan,
-    num: Lines,
-    held: Words,
-    line: &[u8],
-    row: &mut [u16],
-    block: &mut [u8],
-) -> Step
-    requires { ⌜ (length (now row) ≡ 20) × (held .0 ≤ 7998) ⌝ }
-    ensures { λ r. ⌜ Stepped (held .0) (now (block .entry)) (inState (num .0) (held .0) (toCome plan) (now (line .entry))) (now (block .exit)) r ⌝ }
+fn by_plan(p: Plan, num: Lines, held: Words, line: &[u8], row: &mut [u16], block: &mut [u8]) -> Step
+    requires { ⌜ (length (now row) ≡ 20) × (held .0 ≤ mostRecordWords) ⌝ }
+    ensures { λ r. ⌜ Stepped (held .0) (now (block .entry)) (inState (num .0) (held .0) (toCome p) (now (line .entry))) (now (block .exit)) r ⌝ }
 {
-    let p = settled(plan);
-    if 0 < p.cards.0 {
-        return card_line(p, num, held, line, block);
+    let q = settled(p);
+    if 0 < q.cards.0 {
+        return card_line(q, num, held, line, block);
     }
-    if 0 < p.left.0 {
-        return fields_line(p, num, held, line, row, block);
+    if 0 < q.left.0 {
+        return fields_line(q, num, held, line, row, block);
     }
-    open_line(p, num, held, line, row, block)
+    between(q, num, held, line, row, block)
 }
 
-// Any line, which begins with so many plain bytes.
+// Any line, which begins with `plain` plain bytes.
 pub fn read_line(
     plan: Plan,
     num: Lines,
@@ -235,7 +219,7 @@ pub fn read_line(
     row: &mut [u16],
     block: &mut [u8],
 ) -> Step
-    requires { ⌜ (length (now row) ≡ 20) × (held .0 ≤ 7998) × (plain .0 ≡ plainIn (now line)) ⌝ }
+    requires { ⌜ (length (now row) ≡ 20) × (held .0 ≤ mostRecordWords) × (plain .0 ≡ plainIn (now line)) ⌝ }
     ensures { λ r. ⌜ Stepped (held .0) (now (block .entry)) (readLine (num .0) (held .0) (toCome plan) (now (line .entry))) (now (block .exit)) r ⌝ }
 {
     let right = read_columns::plain_to(line, plain).0;
@@ -243,5 +227,5 @@ pub fn read_line(
         let column = right + 1;
         return Step::Refused(Flaw::Byte(num, Bytes(column)));
     }
-    in_state(plan, num, held, line, row, block)
+    by_plan(plan, num, held, line, row, block)
 }

@@ -9,7 +9,7 @@ ghost use lib.Seq.{sets, slice};
 ghost use Rattle.units.specs.Units.{bytesOfWords};
 ghost use Rattle.words.specs.Words.{bytesOf};
 
-// Keeps bytes from place `at` on.
+// Stores bytes from place `at` on.
 pub fn store_bytes(bytes: &[u8], out: &mut [u8], at: Bytes)
     ensures { λ _. ⌜ now (out .exit) ≡ sets (now (out .entry)) (at .0) (now (bytes .entry)) ⌝ }
 {
@@ -25,7 +25,7 @@ pub fn store_bytes(bytes: &[u8], out: &mut [u8], at: Bytes)
     words::write_bytes(bytes, out, at);
 }
 
-// Keeps a byte so many times.
+// Stores a byte `count` times.
 pub fn store_filling(b: u8, count: Bytes, out: &mut [u8], at: Bytes)
     ensures { λ _. ⌜ now (out .exit) ≡ sets (now (out .entry)) (at .0) (replicate (count .0) b) ⌝ }
 {
@@ -41,7 +41,7 @@ pub fn store_filling(b: u8, count: Bytes, out: &mut [u8], at: Bytes)
     }
 }
 
-// Keeps a word after `at` words.
+// Stores a word after `at` words.
 pub fn store_word(w: u16, out: &mut [u8], at: Words)
     requires { ⌜ at .0 < 2 ^ 32 ⌝ }
     ensures { λ _. ⌜ now (out .exit) ≡ sets (now (out .entry)) (bytesOfWords (at .0)) (bytesOf (w ∷ [])) ⌝ }
@@ -59,7 +59,7 @@ pub fn store_word(w: u16, out: &mut [u8], at: Words)
     out[low] = (w % 256) as u8;
 }
 
-// Keeps the words of a row after `from` up to `upto`, after `at` words.
+// Stores the words of a row after `from` up to `upto`, after `at` words.
 pub fn store_words(row: &[u16], from: Words, upto: Words, out: &mut [u8], at: Words)
     requires { ⌜ (upto .0 ≤ length (now row)) × (upto .0 ≤ 40) × (at .0 < 2 ^ 24) ⌝ }
     ensures { λ _. ⌜ now (out .exit) ≡ sets (now (out .entry)) (bytesOfWords (at .0)) (bytesOf (slice (from .0) (upto .0) (now (row .entry)))) ⌝ }

@@ -44,7 +44,7 @@ lines-most (b ∷ t) =
 
 -- ---- record words
 
--- behind so many record words these are some, and no more than a block has room for
+-- behind `held` record words these are some, and no more than a block has room for
 pub record WordsFit (held : ℕ) (ws : List ℕ) : Type 0 where
   pub some : 1 ≤ held + length ws
   pub most : held + length ws ≤ 7998

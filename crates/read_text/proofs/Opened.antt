@@ -98,7 +98,7 @@ pub data First (l : Line) (s : Read) : Type 0 where
   header-first : CardsFirst 15 3002 3101 l s → First l s
   data-first : DataFirst l s → First l s
 
--- a record's first line, with so many words before it: it tells the words of the record, and there is room for them
+-- a record's first line, with `held` words before it: it tells the words of the record, and there is room for them
 pub record Opens (held : ℕ) (l : Line) (s : Read) : Type 0 where
   pub first : First l s
   pub total : word (s .words) 1 ≡ length (s .words) + wordsToCome (s .rest)
@@ -119,7 +119,7 @@ pub record Taken (held : ℕ) (rest : List Shape) (l : Line) (s : Read) : Type 0
   pub readable : Readable l
   pub given : Given held rest l s
 
--- a line after a record's first has so many words
+-- a line after a record's first has the words of its shape
 pub line-wide : (x : Shape) (l : Line) (ws : List ℕ) → LineSpells x l ws → length ws ≡ wide x
 line-wide card l ws h = ap length (h .0) ∙ card-size l
 line-wide (fields n) l ws h = h .0

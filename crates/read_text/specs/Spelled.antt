@@ -39,7 +39,7 @@ SpellsAll l k (w ∷ ws) = Spells l k w × SpellsAll l (suc k) ws
 abbrev pub SpellsZero : Line → ℕ → Type 0
 SpellsZero l k = Blanks (columns 6 l (columnsOfFields k)) ⊎ Spells l k 0
 
--- "Each card is one line of 80 columns", the bytes of its words; a line of number fields has so many; the columns behind are blank
+-- "Each card is one line of 80 columns", the bytes of its words; a line of n number fields has n; the columns behind are blank
 abbrev pub LineSpells : Shape → Line → List ℕ → Type 0
 LineSpells card l ws = (ws ≡ wordsOf (columns 80 l 0)) × Blanks (drop 80 l)
 LineSpells (fields n) l ws = (length ws ≡ n) × SpellsAll l 0 ws × Blanks (drop (columnsOfFields n) l)

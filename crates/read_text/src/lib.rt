@@ -19,7 +19,7 @@ ghost use Rattle.read_text.specs.Content.{stored, storedOf, Ended};
 ghost use Rattle.read_text.specs.Block.{wordsIn, toBlock};
 ghost use Rattle.read_text.specs.Cases.{contentOf, builtOf};
 
-// What is found of a text: so many record words, or why it is refused.
+// What is found of a text: its record words, or why it is refused.
 pub enum Content {
     Records(Words),
     Flawed(Flaw),
@@ -78,7 +78,7 @@ fn read_lines(text: &[u8], block: &mut [u8]) -> Content
     at_end(plan, Lines(num), held)
 }
 
-// What becomes of a text: a block of so many bytes, its refusal, or a buffer that is too short for the bytes needed.
+// What becomes of a text: the bytes of its block, its refusal, or a buffer that is too short for the bytes needed.
 pub enum Built {
     Block(Bytes),
     Refused(Flaw),
@@ -96,7 +96,7 @@ pub fn judge(text: &[u8]) -> Content
     read_lines(text, &mut nothing)
 }
 
-// Writes the block of an accepted text that has so many record words, if the lent block has room for it.
+// Writes the block of an accepted text that has `records` record words, if the lent block has room for it.
 fn write_block(text: &[u8], records: Words, block: &mut [u8]) -> Built
     requires { ⌜ contentOf (Content.Records records) ≡ wordsIn (now text) ⌝ }
     ensures { λ r. ⌜ leaves (builtOf r) (now (block .exit)) ≡ toBlock (now (text .entry)) (now (block .entry)) ⌝ }

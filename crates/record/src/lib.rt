@@ -38,7 +38,7 @@ pub enum Fault {
     Counts(u16, u16),
 }
 
-// What is found of a record: it is good and so many words long, or its block is refused.
+// What is found of a record: it is good, with its words, or its block is refused.
 pub enum Checked {
     Passed(Words),
     Refused(Fault),

@@ -65,7 +65,7 @@ zero-within w = by (eqb w 0) refl (leb (w / 256) 0) refl
 pub part-scan : (p : ℕ → Bool) (f t : ℕ) (b part : List ℕ) → part ≡ slice (f * 2) (t * 2) b → passing p (wordsOf part) ≡ passing p (slice f t (wordsOf b))
 part-scan p f t b part e = ap (λ l. passing p (wordsOf l)) e ∙ ap (passing p) (words-slice f t b)
 
--- of the first n as many pass, if there are so many
+-- of the first n as many pass, if there are n
 pub scan-take : (p : ℕ → Bool) (n : ℕ) (l : List ℕ) → passing p (take n l) ≡ min n (passing p l)
 unfolding passing
 scan-take p zero l = omega arith

@@ -17,6 +17,9 @@ fn wide(x: u8) -> u16
     x as u16
 }
 
+// The most record words that a block has room for: all its words but the first and the last.
+pub const MOST_RECORD_WORDS: usize = 7998;
+
 // The whole words of a part of a block.
 pub fn count(part: &[u8]) -> Words
     ensures { λ r. ⌜ r .0 ≡ length (wordsOf (now (part .entry))) ⌝ }
@@ -128,7 +131,7 @@ pub fn write_bytes(text: &[u8], out: &mut [u8], at: Bytes) -> Bytes
     Bytes(to)
 }
 
-// Puts the length word before so many record words, and the checksum after them; all bytes past those stay.
+// Puts the length word before `records` record words, and the checksum after them; all bytes past those stay.
 pub fn seal(block: &mut [u8], records: Words)
     requires { ⌜ (records .0 ≤ mostRecordWords) × (bytesOfWords (records .0 + 2) ≤ length (now block)) ⌝ }
     ensures { λ _. ⌜ now (block .exit) ≡ bytesOf (framed (words (wordsOf (now (block .entry))) 2 (records .0 + 1))) ++ drop (bytesOfWords (records .0 + 2)) (now (block .entry)) ⌝ }

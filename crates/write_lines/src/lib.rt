@@ -8,7 +8,7 @@ use units::Words;
 ghost use mathlib.Core.Path.{_≡_};
 ghost use Prim.Native.Nat.{_^_, _≤_, _<_};
 ghost use lib.ListN.{length};
-ghost use Rattle.words.specs.Words.{word, wordsOf};
+ghost use Rattle.words.specs.Words.{word, wordsOf, mostWords};
 ghost use Rattle.words.specs.Writing.{Room, Put};
 ghost use Rattle.record.specs.Lines.{lineCount};
 ghost use Rattle.record.specs.Rules.{RecordOk};
@@ -22,7 +22,7 @@ ghost use Rattle.words.specs.Outcomes.{written, leaves};
 ghost use Rattle.block.specs.Judging.{Accepted};
 ghost use Rattle.block.specs.Records.{recordsOf};
 
-// What becomes of a block: so many bytes of text, its refusal, or a text that is too short for the bytes needed.
+// What becomes of a block: the bytes of its text, its refusal, or a text that is too short for the bytes needed.
 pub enum Lined {
     Text(Bytes),
     Refused(Refusal),
@@ -44,7 +44,7 @@ fn kind_shown(kind: u16) -> u16
 
 // A good record's line count, as its first field shows it.
 fn count_shown(whole: &[u8]) -> u16
-    requires { ⌜ RecordOk (wordsOf (now whole)) × (length (wordsOf (now whole)) ≤ 8000) ⌝ }
+    requires { ⌜ RecordOk (wordsOf (now whole)) × (length (wordsOf (now whole)) ≤ mostWords) ⌝ }
     ensures { λ r. ⌜ r ≡ lineCount (wordsOf (now (whole .entry))) ⌝ }
 {
     units::saying_lines(record::line_count(whole))
@@ -52,7 +52,7 @@ fn count_shown(whole: &[u8]) -> u16
 
 // Writes a Data record's lines.
 fn write_data(whole: &[u8], out: &mut [u8], at: Bytes) -> Bytes
-    requires { ⌜ RecordOk (wordsOf (now whole)) × (length (wordsOf (now whole)) ≤ 8000) × (word (wordsOf (now whole)) 2 ≡ 1002) × Room (now out) (at .0) (ended (linesOf (wordsOf (now whole)))) ⌝ }
+    requires { ⌜ RecordOk (wordsOf (now whole)) × (length (wordsOf (now whole)) ≤ mostWords) × (word (wordsOf (now whole)) 2 ≡ 1002) × Room (now out) (at .0) (ended (linesOf (wordsOf (now whole)))) ⌝ }
     ensures { λ r. ⌜ Put (now (out .entry)) (at .0) (ended (linesOf (wordsOf (now (whole .entry))))) (now (out .exit)) (r .0) ⌝ }
 {
     let lines = count_shown(whole);
@@ -62,7 +62,7 @@ fn write_data(whole: &[u8], out: &mut [u8], at: Bytes) -> Bytes
 
 // Writes a Catalogue's or a Header's lines.
 fn write_carded(whole: &[u8], out: &mut [u8], at: Bytes) -> Bytes
-    requires { ⌜ RecordOk (wordsOf (now whole)) × (length (wordsOf (now whole)) ≤ 8000) × (word (wordsOf (now whole)) 2 ≡ 1002 → ⊥) × Room (now out) (at .0) (ended (linesOf (wordsOf (now whole)))) ⌝ }
+    requires { ⌜ RecordOk (wordsOf (now whole)) × (length (wordsOf (now whole)) ≤ mostWords) × (word (wordsOf (now whole)) 2 ≡ 1002 → ⊥) × Room (now out) (at .0) (ended (linesOf (wordsOf (now whole)))) ⌝ }
     ensures { λ r. ⌜ Put (now (out .entry)) (at .0) (ended (linesOf (wordsOf (now (whole .entry))))) (now (out .exit)) (r .0) ⌝ }
 {
     let lines = count_shown(whole);
@@ -74,7 +74,7 @@ fn write_carded(whole: &[u8], out: &mut [u8], at: Bytes) -> Bytes
 
 // Writes a good record's lines.
 fn write_record(whole: &[u8], out: &mut [u8], at: Bytes) -> Bytes
-    requires { ⌜ RecordOk (wordsOf (now whole)) × (length (wordsOf (now whole)) ≤ 8000) × Room (now out) (at .0) (ended (linesOf (wordsOf (now whole)))) ⌝ }
+    requires { ⌜ RecordOk (wordsOf (now whole)) × (length (wordsOf (now whole)) ≤ mostWords) × Room (now out) (at .0) (ended (linesOf (wordsOf (now whole)))) ⌝ }
     ensures { λ r. ⌜ Put (now (out .entry)) (at .0) (ended (linesOf (wordsOf (now (whole .entry))))) (now (out .exit)) (r .0) ⌝ }
 {
     if words::word_at(whole, Words(1)) == record::DATA {
@@ -85,7 +85,7 @@ fn write_record(whole: &[u8], out: &mut [u8], at: Bytes) -> Bytes
 
 // The bytes of a good record's text: a field is six columns, a card its words' bytes, and each line has its end.
 fn record_size(whole: &[u8]) -> Bytes
-    requires { ⌜ RecordOk (wordsOf (now whole)) × (length (wordsOf (now whole)) ≤ 8000) ⌝ }
+    requires { ⌜ RecordOk (wordsOf (now whole)) × (length (wordsOf (now whole)) ≤ mostWords) ⌝ }
     ensures { λ r. ⌜ r .0 ≡ length (ended (linesOf (wordsOf (now (whole .entry))))) ⌝ }
 {
     let words = words::count(whole);

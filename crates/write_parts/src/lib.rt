@@ -59,7 +59,7 @@ fn write_part(whole: &[u8], from: Words, count: Words, out: &mut [u8], at: Bytes
     to
 }
 
-// Writes so many rows of `width` words, each a part of its own.
+// Writes `rows` rows of `width` words, each a part of its own.
 fn write_rows(
     whole: &[u8],
     from: Words,
@@ -86,7 +86,7 @@ fn write_rows(
     to
 }
 
-// Writes so many cards from place `from` on, each a line of 80 columns.
+// Writes `cards` cards from place `from` on, each a line of 80 columns.
 pub fn write_cards(whole: &[u8], from: Words, cards: Lines, out: &mut [u8], at: Bytes) -> Bytes
     requires { ⌜ (from .0 + wordsOfCards (cards .0) ≤ length (wordsOf (now whole))) × Room (now out) (at .0) (ended (cardLines (cards .0) (drop (from .0) (wordsOf (now whole))))) ⌝ }
     ensures { λ r. ⌜ Put (now (out .entry)) (at .0) (ended (cardLines (cards .0) (drop (from .0) (wordsOf (now (whole .entry)))))) (now (out .exit)) (r .0) ⌝ }

@@ -56,13 +56,11 @@ find-spec =
     μ-loop
     returns
     loop-holds
-    (λ c κs. tt)
-    (λ c. search needs)
+    (λ c κs. tt) (λ c. search needs)
     returns-2
     (λ c. search needs)
     add-at
-    (λ c. omega arith)
-    (λ c. omega arith)
+    (λ c. omega arith) (λ c. omega arith)
     loop-again
     (λ c κs. tt)
     returns-3)

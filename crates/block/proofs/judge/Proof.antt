@@ -93,8 +93,7 @@ judge-spec =
     returns-2
     sub-end
     word-at-requires-2
-    (λ c κs. search needs)
-    (λ c κs. search needs)
+    (λ c κs. search needs) (λ c κs. search needs)
     cast-bits
     returns-3
     part-requires-2

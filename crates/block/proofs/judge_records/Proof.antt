@@ -43,8 +43,7 @@ judge-records-spec =
     (λ c κs. tt)
     loop-holds
     (λ c κs. (omega arith, omega arith))
-    (λ c κs. tt)
-    (λ c. search needs)
+    (λ c κs. tt) (λ c. search needs)
     returns
     (λ c. search needs)
     add-at

@@ -9,8 +9,7 @@ signed-spec =
     tie.close
     (tie.spec
     (λ c. rw (c .before .if1 .taken) (simp (lt-leb (c .before .before .args .m) 32768 (omega arith))))
-    (λ c. search needs)
-    (λ c. search needs)
+    (λ c. search needs) (λ c. search needs)
     (λ c. rw (c .before .if1 .taken) (simp (le-leb (c .before .before .args .m) 32768 (omega arith))))
     (λ c. rw (c .before .if1 .left) (simp (lt-leb (c .before .before .args .m) 32767 (omega arith))))
     (λ c. search needs)

@@ -8,6 +8,5 @@ split-spec =
     tie.close
     (tie.spec
     (λ c. search (plain, needs))
-    (λ c. search needs)
-    (λ c. search needs)
+    (λ c. search needs) (λ c. search needs)
     (λ c. search (with-minus, needs)))

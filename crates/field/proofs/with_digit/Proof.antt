@@ -9,6 +9,5 @@ with-digit-spec =
     (tie.spec
     (λ c κs. search needs)
     (λ c. search (no-digit, needs))
-    (λ c. search needs)
-    (λ c. search needs)
+    (λ c. search needs) (λ c. search needs)
     (λ c. search (some-digit, needs)))

@@ -18,13 +18,9 @@ place-in-spec =
     Inv-loop
     μ-loop
     (λ c. search anywhere)
-    (λ c. omega arith)
-    (λ c. omega arith)
-    (λ c. omega arith)
-    (λ c. omega arith)
+    (λ c. omega arith) (λ c. omega arith) (λ c. omega arith) (λ c. omega arith)
     (λ c. search found)
-    (λ c. omega arith)
-    (λ c. omega arith)
+    (λ c. omega arith) (λ c. omega arith)
     (λ c. search too-low)
     (λ c. omega arith)
     (λ c. search too-high)

@@ -46,8 +46,7 @@ print-block-spec =
     (tie.spec
     (λ c κs. search needs)
     numbers-requires
-    (λ c. search needs)
-    (λ c. search needs)
+    (λ c. search needs) (λ c. search needs)
     returns
     write-refusal-requires
     (λ c. search needs)

@@ -37,13 +37,9 @@ pub print-listing-spec : {M : Type 1} → statement M
 print-listing-spec =
     tie.close
     (tie.spec
-    (λ c κs. search needs)
-    (λ c. search needs)
+    (λ c κs. search needs) (λ c. search needs)
     (λ c κs. (record { count = _; is = accepted (c .before) }, when-accepted (c .before) .room))
-    (λ c. search needs)
-    (λ c κs. search needs)
+    (λ c. search needs) (λ c κs. search needs)
     (λ c κs. when-refused (c .before) .room)
-    (λ c. search needs)
-    (λ c. when-accepted (c .before .before .before .before) .printed (c .before .before .write-rows .ensures))
-    (λ c. search needs)
-    (λ c. when-refused (c .before .before .before .before) .printed (c .before .before .write-refusal .ensures)))
+    (λ c. search needs) (λ c. when-accepted (c .before .before .before .before) .printed (c .before .before .write-rows .ensures))
+    (λ c. search needs) (λ c. when-refused (c .before .before .before .before) .printed (c .before .before .write-refusal .ensures)))

@@ -43,8 +43,7 @@ pub write-instrument-spec : {M : Type 1} → statement M
 write-instrument-spec =
     tie.close
     (tie.spec
-    (λ c κs. search needs)
-    (λ c. search needs)
+    (λ c κs. search needs) (λ c. search needs)
     write-bytes-requires
     write-signed-requires
     (λ c. search needs)

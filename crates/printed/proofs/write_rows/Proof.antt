@@ -52,8 +52,7 @@ write-rows-spec =
     Inv-loop
     μ-loop
     loop-holds
-    (λ c κs. tt)
-    (λ c κs. tt)
+    (λ c κs. tt) (λ c κs. tt)
     (λ c. c .before .before .before .loop .inv .holds .going .kept)
     returns
     write-row-requires

@@ -65,9 +65,7 @@ numbers-spec =
     (tie.spec
     (λ c. search needs)
     spot-requires
-    (λ c. search needs)
-    (λ c κs. search needs)
-    (λ c. search needs)
+    (λ c. search needs) (λ c κs. search needs) (λ c. search needs)
     spot-requires-3
     (λ c. search needs)
     spot-requires-4
@@ -81,8 +79,7 @@ numbers-spec =
     spot-requires-8
     (λ c. search needs)
     spot-requires-9
-    (λ c. search needs)
-    (λ c κs. search needs)
+    (λ c. search needs) (λ c κs. search needs)
     returns
     returns-2
     returns-3

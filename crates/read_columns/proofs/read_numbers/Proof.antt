@@ -57,17 +57,12 @@ read-numbers-spec =
     μ-loop
     (λ c. search needs)
     loop-holds
-    (λ c κs. omega arith)
-    (λ c κs. tt)
-    (λ c. search needs)
-    (λ c κs. omega arith)
+    (λ c κs. omega arith) (λ c κs. tt) (λ c. search needs) (λ c κs. omega arith)
     same-length
     returns
-    (λ c. search needs)
-    (λ c. search needs)
+    (λ c. search needs) (λ c. search needs)
     slice-write-row
-    (λ c. search needs)
-    (λ c. omega arith)
+    (λ c. search needs) (λ c. omega arith)
     loop-again
     same-length-2
     returns-2)

@@ -43,11 +43,8 @@ zero-fields-spec =
     μ-loop
     (λ c. search needs)
     loop-holds
-    (λ c κs. omega arith)
-    (λ c. search needs)
+    (λ c κs. omega arith) (λ c. search needs)
     returns
-    (λ c. search needs)
-    (λ c. search needs)
-    (λ c. omega arith)
+    (λ c. search needs) (λ c. search needs) (λ c. omega arith)
     loop-again
     returns-2)

@@ -26,8 +26,7 @@ pub end-length-spec : {M : Type 1} → statement M
 end-length-spec =
     tie.close
     (tie.spec
-    (λ c. search needs)
-    (λ c κs. search needs)
+    (λ c. search needs) (λ c κs. search needs)
     returns
     (λ c. search needs)
     returns-2

@@ -32,10 +32,7 @@ pub cards-line-spec : {M : Type 1} → statement M
 cards-line-spec =
     tie.close
     (tie.spec
-    (λ c. search needs)
-    (λ c κs. search needs)
-    (λ c. search needs)
-    (λ c. search needs)
+    (λ c. search needs) (λ c κs. search needs) (λ c. search needs) (λ c. search needs)
     put-cards-requires
     returns
     (λ c. search needs)

@@ -34,8 +34,7 @@ cards-room-spec =
     (tie.spec
     returns
     returns-2
-    (λ c κs. search needs)
-    (λ c κs. search needs)
+    (λ c κs. search needs) (λ c κs. search needs)
     (λ c. omega (arith, words-are (c .before)))
     returns-3
     returns-4)

@@ -17,8 +17,6 @@ pub catalogue-fields-spec : {M : Type 1} → statement M
 catalogue-fields-spec =
     tie.close
     (tie.spec
-    (λ c κs. search needs)
-    (λ c. search needs)
-    (λ c. search needs)
+    (λ c κs. search needs) (λ c. search needs) (λ c. search needs)
     returns
     returns-2)

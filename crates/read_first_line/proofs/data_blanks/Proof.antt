@@ -20,12 +20,7 @@ pub data-blanks-spec : {M : Type 1} → statement M
 data-blanks-spec =
     tie.close
     (tie.spec
-    (λ c. search needs)
-    (λ c κs. search needs)
-    (λ c κs. search needs)
-    (λ c κs. search needs)
-    (λ c κs. search needs)
-    (λ c. search needs)
-    (λ c. search needs)
+    (λ c. search needs) (λ c κs. search needs) (λ c κs. search needs) (λ c κs. search needs) (λ c κs. search needs)
+    (λ c. search needs) (λ c. search needs)
     (λ c. flaw-stops _ _ tt (c .before .f .given .1) (said (c .before .before .before)))
     (λ c. good-passes _ _ tt (c .enum-told .given .1) (said (c .before .before)) refl))

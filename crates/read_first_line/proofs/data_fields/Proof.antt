@@ -25,9 +25,7 @@ pub data-fields-spec : {M : Type 1} → statement M
 data-fields-spec =
     tie.close
     (tie.spec
-    (λ c κs. search needs)
-    (λ c. search needs)
-    (λ c. search needs)
+    (λ c κs. search needs) (λ c. search needs) (λ c. search needs)
     prologue-fields-requires
     (λ c. search needs)
     returns

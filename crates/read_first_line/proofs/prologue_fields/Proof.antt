@@ -36,15 +36,10 @@ pub prologue-fields-spec : {M : Type 1} → statement M
 prologue-fields-spec =
     tie.close
     (tie.spec
-    (λ c. search needs)
-    (λ c κs. search needs)
-    (λ c κs. search needs)
+    (λ c. search needs) (λ c κs. search needs) (λ c κs. search needs)
     (λ c. omega (arith, more-is (c .before), c .before .before .before .before .before .before .pre .1))
     (λ c κs. let o = c .before .before in (omega (arith, more-is o, o .before .before .before .before .before .pre .1), o .before .before .before .before .before .pre .0))
-    (λ c. search needs)
-    (λ c. search needs)
-    (λ c κs. search needs)
-    (λ c. search needs)
+    (λ c. search needs) (λ c. search needs) (λ c κs. search needs) (λ c. search needs)
     returns
     (λ c. search needs)
     returns-2)

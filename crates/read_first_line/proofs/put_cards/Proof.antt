@@ -34,12 +34,9 @@ pub put-cards-spec : {M : Type 1} → statement M
 put-cards-spec =
     tie.close
     (tie.spec
-    (λ c. search needs)
-    (λ c κs. search needs)
+    (λ c. search needs) (λ c κs. search needs)
     (λ c. omega (arith, lines-are (c .before), c .before .before .before .before .before .pre .3))
-    (λ c. search needs)
-    (λ c κs. search needs)
+    (λ c. search needs) (λ c κs. search needs)
     (λ c κs. let p = c .before .before .before .before .before .before .before .before .pre in (omega (arith, words-are (c .before), p .4), p .0, p .1, p .2, p .5))
-    (λ c κs. search needs)
-    (λ c. search needs)
+    (λ c κs. search needs) (λ c. search needs)
     returns)

@@ -37,9 +37,7 @@ pub put-data-spec : {M : Type 1} → statement M
 put-data-spec =
     tie.close
     (tie.spec
-    (λ c κs. search needs)
-    (λ c. search needs)
-    (λ c κs. search needs)
+    (λ c κs. search needs) (λ c. search needs) (λ c κs. search needs)
     put-head-requires
     (λ c κs. let k = c .before .before .before .before .before .before .before in let p = k .before .before .before .pre in rw (k .row-counts .ensures) (p .0, omega (arith, p .0, p .1)))
     (λ c. search needs)

@@ -6,7 +6,7 @@ use Rattle.read_line.proofs.one_line_less.Tie as tie
 
 returns : tie.Need-returns
 unfolding toCome linesLeft
-returns c = rw (c .before .before .pre .2) (fields-less (c .before .before .args .p) (c .before .before .pre .0) (c .before .before .pre .1))
+returns c = let s = c .before .before .before in rw (c .with-left .ensures, s .pre .2) (fields-less (s .args .p) (s .pre .0) (s .pre .1))
 
 pub one-line-less-spec : {M : Type 1} → statement M
-one-line-less-spec = tie.close (tie.spec (λ c. search needs) returns)
+one-line-less-spec = tie.close (tie.spec (λ c. search needs) (λ c κs. search needs) returns)

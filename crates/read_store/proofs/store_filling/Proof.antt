@@ -40,10 +40,7 @@ store-filling-spec =
     loop-holds
     same-length
     returns
-    (λ c. search needs)
-    (λ c. search needs)
-    (λ c. search needs)
-    (λ c. omega arith)
+    (λ c. search needs) (λ c. search needs) (λ c. search needs) (λ c. omega arith)
     loop-again
     same-length-2
     returns-2)

@@ -51,12 +51,7 @@ store-words-spec =
     μ-loop
     returns
     loop-holds
-    (λ c. search needs)
-    (λ c. search needs)
-    (λ c κs. omega arith)
-    (λ c. search needs)
-    (λ c. omega arith)
-    (λ c. omega arith)
+    (λ c. search needs) (λ c. search needs) (λ c κs. omega arith) (λ c. search needs) (λ c. omega arith) (λ c. omega arith)
     loop-again
     same-length
     returns-2)

@@ -33,10 +33,7 @@ pub judge-cards-spec : {M : Type 1} → statement M
 judge-cards-spec =
     tie.close
     (tie.spec
-    (λ c κs. search needs)
-    (λ c κs. search needs)
-    (λ c κs. search needs)
-    (λ c κs. search needs)
+    (λ c κs. search needs) (λ c κs. search needs) (λ c κs. search needs) (λ c κs. search needs)
     returns
     judge-content-requires
     returns-2)

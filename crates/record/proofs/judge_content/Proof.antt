@@ -46,13 +46,10 @@ judge-content-spec =
     (tie.spec
     (λ c. search needs)
     (λ c κs. let r = right (c .before) in (omega arith, omega arith))
-    (λ c. search needs)
-    (λ c. search needs)
-    (λ c. search needs)
+    (λ c. search needs) (λ c. search needs) (λ c. search needs)
     returns
     (λ c κs. let r = right (c .before .before .before) in (r .least, r .room))
     (λ c. right (c .before .before .before .before .before) .least)
-    (λ c. search needs)
-    (λ c. search needs)
+    (λ c. search needs) (λ c. search needs)
     returns-2
     returns-3)

@@ -8,6 +8,5 @@ is-broken-spec =
     tie.close
     (tie.spec
     (λ c. search wrong-size)
-    (λ c κs. search needs) (λ c κs. search needs) (λ c κs. search needs) (λ c. search needs)
-    (λ c κs. search needs)
+    (λ c κs. search needs) (λ c κs. search needs) (λ c κs. search needs) (λ c. search needs) (λ c κs. search needs)
     (λ c. search other-tests))

@@ -40,9 +40,7 @@ exclusive-or-spec =
     μ-loop
     (λ c κs. tt)
     loop-holds
-    (λ c κs. omega arith)
-    (λ c. omega arith)
-    (λ c. omega arith)
+    (λ c κs. omega arith) (λ c. omega arith) (λ c. omega arith)
     loop-again
     (λ c κs. tt)
     returns)

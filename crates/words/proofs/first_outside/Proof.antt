@@ -40,10 +40,8 @@ first-outside-spec =
     μ-loop
     (λ c κs. tt)
     loop-holds
-    (λ c κs. omega arith)
-    (λ c κs. tt)
+    (λ c κs. omega arith) (λ c κs. tt)
     returns
-    (λ c. omega arith)
-    (λ c. omega arith)
+    (λ c. omega arith) (λ c. omega arith)
     loop-again
     returns-2)

@@ -26,7 +26,6 @@ part-spec =
     (tie.spec
     bytes-of-words-requires
     bytes-of-words-requires-2
-    (λ c. search needs)
-    (λ c. search needs)
+    (λ c. search needs) (λ c. search needs)
     part-result-end
     returns)

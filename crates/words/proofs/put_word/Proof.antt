@@ -26,8 +26,7 @@ put-word-spec =
     tie.close
     (tie.spec
     bytes-of-words-requires
-    (λ c. search needs)
-    (λ c. search needs)
+    (λ c. search needs) (λ c. search needs)
     slice-write-part
     (λ c. search needs)
     slice-write-part-2

@@ -30,9 +30,7 @@ pub seal-spec : {M : Type 1} → statement M
 seal-spec =
     tie.close
     (tie.spec
-    (λ c. search needs)
-    (λ c. search needs)
-    (λ c κs. omega arith)
+    (λ c. search needs) (λ c. search needs) (λ c κs. omega arith)
     put-word-requires
     part-requires
     (λ c κs. search needs)

@@ -30,10 +30,7 @@ swapped-at-spec =
     (tie.spec
     bytes-of-words-requires
     shared-slice-read-wide
-    (λ c κs. search needs)
-    (λ c. search needs)
+    (λ c κs. search needs) (λ c. search needs)
     shared-slice-read-wide-2
-    (λ c κs. search needs)
-    (λ c. search needs)
-    (λ c. search needs)
+    (λ c κs. search needs) (λ c. search needs) (λ c. search needs)
     returns)

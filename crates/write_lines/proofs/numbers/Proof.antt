@@ -26,9 +26,7 @@ numbers-spec =
     (tie.spec
     (λ c. search needs)
     sized-requires
-    (λ c. search needs)
-    (λ c κs. search needs)
-    (λ c. search needs)
+    (λ c. search needs) (λ c κs. search needs) (λ c. search needs)
     sized-requires-2
     returns
     returns-2

@@ -75,8 +75,6 @@ record-size-spec =
     add-size
     returns
     sub-behind
-    (λ c κs. search needs)
-    (λ c κs. search needs)
-    (λ c. search needs)
+    (λ c κs. search needs) (λ c κs. search needs) (λ c. search needs)
     add-size-3
     returns-2)

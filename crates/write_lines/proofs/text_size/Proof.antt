@@ -61,8 +61,7 @@ text-size-spec =
     Inv-loop
     μ-loop
     loop-holds
-    (λ c κs. tt)
-    (λ c κs. tt)
+    (λ c κs. tt) (λ c κs. tt)
     returns
     record-size-requires
     (λ c. omega (arith, counted (c .before)))

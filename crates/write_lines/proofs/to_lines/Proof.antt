@@ -19,9 +19,7 @@ pub to-lines-spec : {M : Type 1} → statement M
 to-lines-spec =
     tie.close
     (tie.spec
-    (λ c κs. search needs)
-    (λ c. search needs)
-    (λ c. search needs)
+    (λ c κs. search needs) (λ c. search needs) (λ c. search needs)
     write-text-requires
     returns
     (λ c. search needs)

@@ -60,8 +60,7 @@ write-carded-spec =
     (tie.spec
     (λ c κs. search needs)
     (λ c κs. let s = c .before .before .before in omega (arith, cards s .least))
-    (λ c κs. search needs)
-    (λ c κs. search needs)
+    (λ c κs. search needs) (λ c κs. search needs)
     sub-cards
     write-head-requires
     write-cards-requires

@@ -13,8 +13,6 @@ write-record-spec =
     (tie.spec
     (λ c κs. let s = c .before .before in omega (arith, ok-long (wordsOf (now (s .args .whole))) (s .pre .0)))
     (λ c κs. let w = c .before .before in let p = w .before .before .before .pre in (p .0, p .1, sym (w .word-at .ensures) ∙ c .before .if1 .taken, p .2))
-    (λ c. search needs)
-    (λ c. search needs)
+    (λ c. search needs) (λ c. search needs)
     (λ c κs. let w = c .before .before in let p = w .before .before .before .pre in (p .0, p .1, (λ e. c .before .if1 .left (w .word-at .ensures ∙ e)), p .2))
-    (λ c. search needs)
-    (λ c. search needs))
+    (λ c. search needs) (λ c. search needs))

@@ -48,8 +48,7 @@ write-records-spec =
     Inv-loop
     μ-loop
     loop-holds
-    (λ c κs. tt)
-    (λ c κs. tt)
+    (λ c κs. tt) (λ c κs. tt)
     (λ c. c .before .before .before .loop .inv .holds .kept)
     returns
     write-record-requires

@@ -87,8 +87,7 @@ write-cards-spec =
     write-bytes-requires
     slice-write-out
     add-to
-    (λ c. omega arith)
-    (λ c. omega arith)
+    (λ c. omega arith) (λ c. omega arith)
     loop-again
     same-length
     returns)

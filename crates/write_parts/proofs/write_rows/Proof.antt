@@ -69,8 +69,7 @@ write-rows-spec =
     loop-holds
     write-part-requires
     add-place
-    (λ c. omega arith)
-    (λ c. omega arith)
+    (λ c. omega arith) (λ c. omega arith)
     loop-again
     same-length
     returns-2)

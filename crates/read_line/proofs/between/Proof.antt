@@ -5,8 +5,8 @@ use borrow.Author.Needs.{needs}
 use Rattle.words.specs.Words.{bytesOf}
 use Rattle.read_first_line.proofs.Steps.{same-step, passed-stand}
 use Rattle.read_line.specs.Lines.{inState}
-use Rattle.read_line.proofs.open_line.Statement.{statement}
-use Rattle.read_line.proofs.open_line.Tie as tie
+use Rattle.read_line.proofs.between.Statement.{statement}
+use Rattle.read_line.proofs.between.Tie as tie
 
 returns : tie.Need-returns
 unfolding inState bytesOf
@@ -18,13 +18,11 @@ unfolding inState
 returns-2 c = let f = c .before .before .before .before in let e = f .before .before .before in
     same-step _ _ (rw (sym (e .before .blank-line .ensures) ∙ e .if1 .left)) (f .first-line .ensures)
 
-pub open-line-spec : {M : Type 1} → statement M
-open-line-spec =
+pub between-spec : {M : Type 1} → statement M
+between-spec =
     tie.close
     (tie.spec
     (λ c κs. search needs)
     returns
-    (λ c κs. search needs)
-    (λ c. search needs)
-    (λ c. search needs)
+    (λ c κs. search needs) (λ c. search needs) (λ c. search needs)
     returns-2)
