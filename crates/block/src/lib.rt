@@ -84,9 +84,9 @@ pub fn judge(block: &[u8]) -> Judged
     let end = m - 1;
     let last = Words(end);
     let stored = words::word_at(block, last);
-    let checksumOf = words::exclusive_or(words::part(block, Words(0), last));
-    if stored != checksumOf {
-        let bits = u16::count_ones(stored ^ checksumOf) as u16;
+    let checksum = words::exclusive_or(words::part(block, Words(0), last));
+    if stored != checksum {
+        let bits = u16::count_ones(stored ^ checksum) as u16;
         return Judged::Refused(Refusal::Checksum(bits));
     }
     judge_records(words::part(block, Words(1), last))

@@ -41,8 +41,8 @@ pub extern "C" fn cedar_to_lines(block: &[u8], text: &mut [u8]) -> u64
 pub extern "C" fn cedar_to_block(text: &[u8], block: &mut [u8]) -> u64
     ensures { λ r. ⌜ returned r (now (block .exit)) ≡ converted (toBlock (now (text .entry)) (now (block .entry))) ⌝ }
 {
-    let blocked = read_text::to_block(text, block);
-    units::pack(read_text::numbers(blocked))
+    let built = read_text::to_block(text, block);
+    units::pack(read_text::numbers(built))
 }
 
 // uint64_t cedar_sheet_start(uint8_t *sheet, size_t length);

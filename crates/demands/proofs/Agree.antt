@@ -33,7 +33,7 @@ use Rattle.read_text.specs.declared.Content.the-variants.{Flawed}
 use Rattle.read_text.specs.declared.Content.the-variants as text
 use Rattle.read_text.specs.declared.Built.{Built}
 use Rattle.read_text.specs.declared.Built.the-variants.{Block}
-use Rattle.read_text.specs.declared.Built.the-variants as blocked
+use Rattle.read_text.specs.declared.Built.the-variants as built
 use Rattle.read_text.specs.Cases.{contentOf, builtOf}
 use Rattle.sheet.specs.declared.Opened.{Opened}
 use Rattle.sheet.specs.declared.Opened.the-variants as sheet
@@ -145,58 +145,58 @@ pub cedar-lines-agree : CedarLinesAgree
 cedar-lines-agree block text = cedar-written-agree (toLines block text)
 
 -- the case that the numbers of lines to block tell
-blockedCase : Answer → Built
-blockedCase r =
+builtCase : Answer → Built
+builtCase r =
     let line : Lines = record { 0 = r .a } in
     let column : Bytes = record { 0 = r .b } in
     if eqb (r .n) 0 then Block (record { 0 = r .a })
-    else if eqb (r .n) 20 then blocked.Refused (Byte line column)
-    else if eqb (r .n) 21 then blocked.Refused NoRecord
-    else if eqb (r .n) 22 then blocked.Refused (Field line column)
-    else if eqb (r .n) 23 then blocked.Refused (columns.Kind line)
-    else if eqb (r .n) 24 then blocked.Refused (Count line)
-    else if eqb (r .n) 25 then blocked.Refused (Ends line)
-    else if eqb (r .n) 26 then blocked.Refused (NotBlank line column)
-    else if eqb (r .n) 27 then blocked.Refused (Range line column)
-    else if eqb (r .n) 28 then blocked.Refused (Much line)
-    else if eqb (r .n) 29 then blocked.Short (record { 0 = r .a })
-    else blocked.Refused Long
+    else if eqb (r .n) 20 then built.Refused (Byte line column)
+    else if eqb (r .n) 21 then built.Refused NoRecord
+    else if eqb (r .n) 22 then built.Refused (Field line column)
+    else if eqb (r .n) 23 then built.Refused (columns.Kind line)
+    else if eqb (r .n) 24 then built.Refused (Count line)
+    else if eqb (r .n) 25 then built.Refused (Ends line)
+    else if eqb (r .n) 26 then built.Refused (NotBlank line column)
+    else if eqb (r .n) 27 then built.Refused (Range line column)
+    else if eqb (r .n) 28 then built.Refused (Much line)
+    else if eqb (r .n) 29 then built.Short (record { 0 = r .a })
+    else built.Refused Long
 
-blocked-back : (b : Built) → blockedCase (builtOf b) ≡ b
-unfolding blockedCase
-blocked-back (Block size) = refl
-blocked-back (blocked.Short size) = refl
-blocked-back (blocked.Refused (Byte line column)) = refl
-blocked-back (blocked.Refused NoRecord) = refl
-blocked-back (blocked.Refused (Field line column)) = refl
-blocked-back (blocked.Refused (columns.Kind line)) = refl
-blocked-back (blocked.Refused (Count line)) = refl
-blocked-back (blocked.Refused (Ends line)) = refl
-blocked-back (blocked.Refused (NotBlank line column)) = refl
-blocked-back (blocked.Refused (Range line column)) = refl
-blocked-back (blocked.Refused (Much line)) = refl
-blocked-back (blocked.Refused Long) = refl
+built-back : (b : Built) → builtCase (builtOf b) ≡ b
+unfolding builtCase
+built-back (Block size) = refl
+built-back (built.Short size) = refl
+built-back (built.Refused (Byte line column)) = refl
+built-back (built.Refused NoRecord) = refl
+built-back (built.Refused (Field line column)) = refl
+built-back (built.Refused (columns.Kind line)) = refl
+built-back (built.Refused (Count line)) = refl
+built-back (built.Refused (Ends line)) = refl
+built-back (built.Refused (NotBlank line column)) = refl
+built-back (built.Refused (Range line column)) = refl
+built-back (built.Refused (Much line)) = refl
+built-back (built.Refused Long) = refl
 
 -- the refusal in it
 flawIn : Built → Flaw
 flawIn (Block size) = Long
-flawIn (blocked.Refused f) = f
-flawIn (blocked.Short size) = Long
+flawIn (built.Refused f) = f
+flawIn (built.Short size) = Long
 
 contentCase : Verdict ℕ → Content
 contentCase (passed n) = text.Records (record { 0 = n })
-contentCase (refused r) = Flawed (flawIn (blockedCase r))
+contentCase (refused r) = Flawed (flawIn (builtCase r))
 
 content-back : (r : Content) → contentCase (contentOf r) ≡ r
 unfolding contentCase flawIn
 content-back (text.Records n) = refl
-content-back (Flawed f) = ap (λ x. Flawed (flawIn x)) (blocked-back (blocked.Refused f))
+content-back (Flawed f) = ap (λ x. Flawed (flawIn x)) (built-back (built.Refused f))
 
 pub content-agrees : ContentAgrees
 content-agrees text r s p q = sym (content-back r) ∙ ap contentCase (same p q) ∙ content-back s
 
 pub block-agrees : BlockAgrees
-block-agrees text block = written-agree builtOf blockedCase blocked-back (toBlock text block)
+block-agrees text block = written-agree builtOf builtCase built-back (toBlock text block)
 
 pub cedar-block-agrees : CedarBlockAgrees
 cedar-block-agrees text block = cedar-written-agree (toBlock text block)

@@ -22,7 +22,7 @@ use Rattle.read_columns.specs.Columns.{plainLine, isBlank, blankTo, blankAfter,
 use Rattle.read_columns.proofs.Columns.{right-to, columns-part}
 use Rattle.read_first_line.specs.FirstLine.{Shape, card, fields, gives, firstLine}
 use Rattle.read_line.specs.Lines.{rowFields, inState, readLine, readLines}
-use Rattle.read_text.specs.Spelled.{Printed, Readable, Blanks, Spells, SpellsAll, SpellsZero, LineSpells, LinesSpell, no-lines, a-line}
+use Rattle.read_text.specs.Spelled.{PlainByte, Readable, Blanks, Spells, SpellsAll, SpellsZero, LineSpells, LinesSpell, no-lines, a-line}
 use Rattle.read_text.proofs.Columns.{all-blank}
 
 -- ---- the columns of a line
@@ -31,7 +31,7 @@ use Rattle.read_text.proofs.Columns.{all-blank}
 plain-back : (num : ℕ) (l : Line) → Readable l → plainLine num l ≡ passed tt
 unfolding plainLine
 plain-back num l r =
-    let plain = pass-all (within 32 126) Printed (λ b p. simp (le-leb 32 b (p .least), le-leb b 126 (p .most))) l (r .bytes) in
+    let plain = pass-all (within 32 126) PlainByte (λ b p. simp (le-leb 32 b (p .least), le-leb b 126 (p .most))) l (r .bytes) in
     sym (right-to 20 num l (plainIn (take 120 l)) (rw (take-all 120 l (r .short)) (omega arith)))
 
 blank-all : (l : Line) → Blanks l → passing isBlank l ≡ length l

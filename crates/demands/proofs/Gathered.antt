@@ -15,7 +15,7 @@ use Rattle.line_plan.specs.Plan.{plan, dataPlan, kindShown, shownWords}
 use Rattle.units.specs.Units.{Line}
 use Rattle.write_lines.proofs.Sizes.{is-cards, data-count}
 use Rattle.read_first_line.specs.FirstLine.{Shape, card, fields, Read}
-use Rattle.read_text.specs.Spelled.{Printed, Readable, LineSpells, LinesSpell, no-lines, a-line, CardsSpelled, RecordSpelled, as-catalogue, as-header, as-data}
+use Rattle.read_text.specs.Spelled.{PlainByte, Readable, LineSpells, LinesSpell, no-lines, a-line, CardsSpelled, RecordSpelled, as-catalogue, as-header, as-data}
 use Rattle.read_columns.proofs.Columns.{columns-all}
 use Rattle.read_text.proofs.Columns.{card-words, words-below}
 use Rattle.read_text.proofs.Opened.{wordsToCome, CardsFirst, DataFirst, First, catalogue-first, header-first, data-first, Opens, line-wide, plan-turn}
@@ -24,7 +24,7 @@ use Rattle.read_text.proofs.Opened.{wordsToCome, CardsFirst, DataFirst, First, 
 
 -- a card's words
 card-printed : (l : Line) → Readable l → All CardWord (wordsOf (columns 80 l 0))
-card-printed l h = card-words (columns 80 l 0) (columns-all Printed (omega arith) 80 l 0 (h .bytes))
+card-printed l h = card-words (columns 80 l 0) (columns-all PlainByte (omega arith) 80 l 0 (h .bytes))
 
 line-below : (x : Shape) (l : Line) (ws : List ℕ) → Readable l → LineSpells x l ws → Below 65536 ws
 line-below card l ws r h = rw (h .0) (all-map CardWord (λ w. w < 65536) (λ w c. omega (arith, c .high-most)) (wordsOf (columns 80 l 0)) (card-printed l r))

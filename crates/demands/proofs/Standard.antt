@@ -33,45 +33,45 @@ use Rattle.read_cut.specs.Lines.{onto, linesIn, endLength}
 use Rattle.read_columns.proofs.Columns.{columns-full}
 use Rattle.read_first_line.specs.FirstLine.{card, fields}
 use Rattle.read_text.specs.Block.{readText}
-use Rattle.read_text.specs.Spelled.{Printed, Readable, Blanks, Spells, SpellsAll, LineSpells, LinesSpell, no-lines, a-line, CardsSpelled, RecordSpelled, as-catalogue, as-header, as-data, Spelled, at-end, a-record}
+use Rattle.read_text.specs.Spelled.{PlainByte, Readable, Blanks, Spells, SpellsAll, LineSpells, LinesSpell, no-lines, a-line, CardsSpelled, RecordSpelled, as-catalogue, as-header, as-data, Spelled, at-end, a-record}
 use Rattle.demands.proofs.Lines.{line-width}
 use Rattle.demands.proofs.Texts.{text-read}
 
 -- ---- the bytes of written lines
 
-byte-printed : (b : ℕ) → FieldByte b → Printed b
-byte-printed b blank = omega arith
-byte-printed b minus = omega arith
-byte-printed b (figure n) = omega arith
+byte-plain : (b : ℕ) → FieldByte b → PlainByte b
+byte-plain b blank = omega arith
+byte-plain b minus = omega arith
+byte-plain b (figure n) = omega arith
 
-fields-printed : (ws : List ℕ) → All Printed (fieldsOf ws)
+fields-plain : (ws : List ℕ) → All PlainByte (fieldsOf ws)
 unfolding fieldsOf
-fields-printed [] = tt
-fields-printed (w ∷ ws) = all-append Printed (fieldOf w) (fieldsOf ws) (all-map FieldByte Printed byte-printed (fieldOf w) (bytes-fieldOf w)) (fields-printed ws)
+fields-plain [] = tt
+fields-plain (w ∷ ws) = all-append PlainByte (fieldOf w) (fieldsOf ws) (all-map FieldByte PlainByte byte-plain (fieldOf w) (bytes-fieldOf w)) (fields-plain ws)
 
-card-printed : (ws : List ℕ) → All CardWord ws → All Printed (bytesOf ws)
+card-plain : (ws : List ℕ) → All CardWord ws → All PlainByte (bytesOf ws)
 unfolding bytesOf
-card-printed [] h = tt
-card-printed (w ∷ ws) h = (record { least = h .0 .high-least; most = h .0 .high-most }, (record { least = h .0 .low-least; most = h .0 .low-most }, card-printed ws (h .1)))
+card-plain [] h = tt
+card-plain (w ∷ ws) h = (record { least = h .0 .high-least; most = h .0 .high-most }, (record { least = h .0 .low-least; most = h .0 .low-most }, card-plain ws (h .1)))
 
-laid-printed : (ns ws : List ℕ) → All (All Printed) (laid ns ws)
+laid-plain : (ns ws : List ℕ) → All (All PlainByte) (laid ns ws)
 unfolding laid
-laid-printed [] ws = tt
-laid-printed (n ∷ ns) ws = (fields-printed (take n ws), laid-printed ns (drop n ws))
+laid-plain [] ws = tt
+laid-plain (n ∷ ns) ws = (fields-plain (take n ws), laid-plain ns (drop n ws))
 
-cards-printed : (n : ℕ) (ws : List ℕ) → All CardWord ws → All (All Printed) (cardLines n ws)
+cards-plain : (n : ℕ) (ws : List ℕ) → All CardWord ws → All (All PlainByte) (cardLines n ws)
 unfolding cardLines
-cards-printed zero ws h = tt
-cards-printed (suc n) ws h = (card-printed (take 40 ws) (all-take CardWord 40 ws h), cards-printed n (drop 40 ws) (all-drop CardWord 40 ws h))
+cards-plain zero ws h = tt
+cards-plain (suc n) ws h = (card-plain (take 40 ws) (all-take CardWord 40 ws h), cards-plain n (drop 40 ws) (all-drop CardWord 40 ws h))
 
 -- ---- the lines of a text
 
-line-cut : (l t : List ℕ) → All Printed l → linesIn (l ++ 10 ∷ t) ≡ l ∷ linesIn t
+line-cut : (l t : List ℕ) → All PlainByte l → linesIn (l ++ 10 ∷ t) ≡ l ∷ linesIn t
 unfolding linesIn onto endLength
 line-cut [] t h = refl
 line-cut (b ∷ l) t h = simp (ne-eqb b 10 (λ e. omega (arith, h .0 .least)), ne-eqb b 13 (λ e. omega (arith, h .0 .least))) (ap (onto b) (line-cut l t (h .1)))
 
-lines-cut : (ls : List Line) (t : List ℕ) → All (All Printed) ls → linesIn (ended ls ++ t) ≡ ls ++ linesIn t
+lines-cut : (ls : List Line) (t : List ℕ) → All (All PlainByte) ls → linesIn (ended ls ++ t) ≡ ls ++ linesIn t
 unfolding ended
 lines-cut [] t h = refl
 lines-cut (l ∷ ls) t h =
@@ -188,8 +188,8 @@ module _ (r : List ℕ) (h : RecordOk r) where
           cards = cards-spell (lineCount r - 1) (drop 40 r) (omega (arith, length-drop 40 r, c .size));
         }
 
-    cards-lines-printed : (z : ℕ) → CardsOk z r → All (All Printed) (linesOf r)
-    cards-lines-printed z c = rw its-lines (fields-printed (take 20 (shownWords r)), cards-printed (lineCount r - 1) (drop 40 r) (rw (take-length r) at (c .printed)))
+    cards-lines-plain : (z : ℕ) → CardsOk z r → All (All PlainByte) (linesOf r)
+    cards-lines-plain z c = rw its-lines (fields-plain (take 20 (shownWords r)), cards-plain (lineCount r - 1) (drop 40 r) (rw (take-length r) at (c .printed)))
 
   lines-spelled : RecordSpelled r (linesOf r)
   lines-spelled = by (h .kind)
@@ -201,17 +201,17 @@ module _ (r : List ℕ) (h : RecordOk r) where
           let all = fieldsIn-plan (countsOf r) in
           rw (data-lines r (ap (λ k. eqb k 1002) e)) (as-data e (laid-spell (dataPlan r) (shownWords r) (omega (arith, d .sum, d .counts .lprol .least-is, length-drop 2 r)) shown-below))
 
-  lines-printed : All (All Printed) (linesOf r)
-  lines-printed = by (h .kind)
+  lines-plain : All (All PlainByte) (linesOf r)
+  lines-plain = by (h .kind)
     where
-      by : KindOk r → All (All Printed) (linesOf r)
-      by (catalogue e c) = cards-lines-printed (λ f. omega arith) 13 c
-      by (header e c) = cards-lines-printed (λ f. omega arith) 16 c
-      by (dataRecord e d) = rw (data-lines r (ap (λ k. eqb k 1002) e)) (laid-printed (dataPlan r) (shownWords r))
+      by : KindOk r → All (All PlainByte) (linesOf r)
+      by (catalogue e c) = cards-lines-plain (λ f. omega arith) 13 c
+      by (header e c) = cards-lines-plain (λ f. omega arith) 16 c
+      by (dataRecord e d) = rw (data-lines r (ap (λ k. eqb k 1002) e)) (laid-plain (dataPlan r) (shownWords r))
 
 -- ---- a text
 
-all-readable : (ls : List Line) → All (All Printed) ls → All (λ l. length l ≤ 120) ls → All Readable ls
+all-readable : (ls : List Line) → All (All PlainByte) ls → All (λ l. length l ≤ 120) ls → All Readable ls
 all-readable [] p w = tt
 all-readable (l ∷ ls) p w = (record { short = w .0; bytes = p .0 }, all-readable ls (p .1) (w .1))
 
@@ -225,9 +225,9 @@ unfolding linesIn textOf
 standard-lines [] h = record { lines = tt; spelled = at-end }
 standard-lines (r ∷ rs) h =
     let s = standard-lines rs (h .1) in
-    let cut = lines-cut (linesOf r) (textOf rs) (lines-printed r (h .0)) in
+    let cut = lines-cut (linesOf r) (textOf rs) (lines-plain r (h .0)) in
     record {
-      lines = rw cut (all-append Readable (linesOf r) (linesIn (textOf rs)) (all-readable (linesOf r) (lines-printed r (h .0)) (line-width r (h .0))) (s .lines));
+      lines = rw cut (all-append Readable (linesOf r) (linesIn (textOf rs)) (all-readable (linesOf r) (lines-plain r (h .0)) (line-width r (h .0))) (s .lines));
       spelled = rw cut (a-record (lines-spelled r (h .0)) (s .spelled));
     }
 

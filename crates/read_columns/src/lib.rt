@@ -137,7 +137,7 @@ fn zero_field(line: &[u8], num: Lines, k: Words) -> Checked
     }
 }
 
-// So many such fields, with `from` fields before them.
+// `count` such fields, with `from` fields before them.
 pub fn zero_fields(line: &[u8], num: Lines, from: Words, count: Words) -> Checked
     requires { ⌜ from .0 + count .0 ≤ 20 ⌝ }
     ensures { λ r. ⌜ checkedOf tt r ≡ zeros (num .0) (now (line .entry)) (from .0) (count .0) ⌝ }

@@ -35,7 +35,7 @@ pub enum Step {
     Refused(Flaw),
 }
 
-// So many cards are to come.
+// `cards` cards are to come.
 pub fn cards_only(cards: Lines) -> Plan
     ensures { λ r. ⌜ toCome r ≡ replicate (cards .0) card ⌝ }
 {

@@ -20,7 +20,7 @@ ghost use Rattle.read_first_line.specs.State.{toCome, Stepped, put};
 ghost use Rattle.read_line.specs.Lines.{rowFields, inState, readLine};
 ghost use Rattle.read_line.specs.State.{Settled};
 
-// So many of `count` parts of this width take lines: all, or none where they have no fields.
+// The parts of this width that take lines: all `count` of them, or none where they have no fields.
 fn parts(count: usize, width: Words) -> usize
     ensures { λ r. ⌜ (r ≤ count) × (times r (part (width .0)) ≡ times count (part (width .0))) × (0 < r → 0 < width .0) ⌝ }
 {

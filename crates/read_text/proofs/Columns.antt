@@ -23,7 +23,7 @@ use Rattle.field.specs.declared.Scan.the-variants.{Blank, Sign, Digits, Spoiled
 use Rattle.field.specs.Reading.{finishOf, scanOf, readField, columns}
 use Rattle.units.specs.Units.{Line}
 use Rattle.read_columns.specs.Columns.{rightTo, plainLine, isBlank, blankTo, blankAfter, columnOf, wordIn, number, numbers, blankField, zeroField, zeros}
-use Rattle.read_text.specs.Spelled.{Printed, Readable, Blanks, Spells, SpellsAll, SpellsZero}
+use Rattle.read_text.specs.Spelled.{PlainByte, Readable, Blanks, Spells, SpellsAll, SpellsZero}
 use Rattle.units.proofs.Told.{Known, then-known, known-as}
 use Rattle.read_text.proofs.Told.{told}
 use Rattle.read_text.specs.Cases.{TextRow}
@@ -38,13 +38,13 @@ right-known n num l c row hn h =
     by-test (Known TextRow (λ _. length l ≤ c)) (ltb c (length l)) (refused (answer n num (c + 1) 0)) (passed tt) (λ _. told n num (c + 1) row hn (omega arith)) (ltb-false c (length l))
 
 -- row 20
-printed : (b : ℕ) → within 32 126 b ≡ true → Printed b
-printed b e = let a = and-on (leb 32 b) _ e in record { least = leb-true 32 b (a .0); most = leb-true b 126 (a .1) }
+plain-byte : (b : ℕ) → within 32 126 b ≡ true → PlainByte b
+plain-byte b e = let a = and-on (leb 32 b) _ e in record { least = leb-true 32 b (a .0); most = leb-true b 126 (a .1) }
 
 readable : (l : Line) → length l ≤ plainIn (take 120 l) → Readable l
 readable l h =
     let short : length l ≤ 120 = omega (arith, scan-le (within 32 126) (take 120 l), length-take 120 l) in
-    record { short = short; bytes = all-pass (within 32 126) Printed printed l (rw (take-all 120 l short) at h) }
+    record { short = short; bytes = all-pass (within 32 126) PlainByte plain-byte l (rw (take-all 120 l short) at h) }
 
 pub plain-known : (num : ℕ) (l : Line) → num < 2 ^ 24 → Known TextRow (λ _. Readable l) (plainLine num l)
 unfolding plainLine
@@ -55,7 +55,7 @@ plain-known num l hn =
 
 -- ---- the words of a card
 
-pub card-words : (b : List ℕ) → All Printed b → All CardWord (wordsOf b)
+pub card-words : (b : List ℕ) → All PlainByte b → All CardWord (wordsOf b)
 unfolding wordsOf
 card-words [] h = tt
 card-words (x ∷ []) h = tt

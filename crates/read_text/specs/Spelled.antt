@@ -13,14 +13,14 @@ use Rattle.line_plan.specs.Plan.{dataPlan, shownWords}
 use Rattle.read_first_line.specs.FirstLine.{Shape, card, fields}
 
 -- "Other bytes are 32 to 126"
-pub record Printed (b : ℕ) : Type 0 where
+pub record PlainByte (b : ℕ) : Type 0 where
   pub least : 32 ≤ b
   pub most : b ≤ 126
 
 -- "a line has at most 120 bytes before its end"
 pub record Readable (l : Line) : Type 0 where
   pub short : length l ≤ 120
-  pub bytes : All Printed l
+  pub bytes : All PlainByte l
 
 -- nothing but blanks
 abbrev pub Blanks : Line → Type 0

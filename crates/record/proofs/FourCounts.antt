@@ -55,17 +55,6 @@ pub ok-range : (c : Counts) → CountsOk c → inRange c ≡ 4
 unfolding inRange
 ok-range c h = simp (least-at 16 _ (h .lprol), least-at 0 _ (h .jpar), least-at 0 _ (h .mpar), least-at 0 _ (h .nrow))
 
-pub range-most : (c : Counts) → inRange c ≤ 4
-unfolding inRange
-range-most c = by (underLeast 16 (c .lprol)) (underLeast 0 (c .jpar)) (underLeast 0 (c .mpar)) (underLeast 0 (c .nrow))
-  where
-    by : (l j m n : Bool) → (if l then 0 else if j then 1 else if m then 2 else if n then 3 else 4) ≤ 4
-    by true j m n = omega arith
-    by false true m n = omega arith
-    by false false true n = omega arith
-    by false false false true = omega arith
-    by false false false false = omega arith
-
 -- rows and their codes, each of a word's size, fit into 64 bits
 pub rows-fit : (m n : ℕ) → m ≤ 65536 → n + 1 ≤ 65536 → m * (n + 1) ≤ 65536 * 65536
 rows-fit m n h k = mul-le-mul {n₂ = 65536} {m₂ = 65536} h k

@@ -26,7 +26,7 @@ pub record TotalRight (total left : ℕ) : Type 0 where
   pub whole : total % 40 ≡ 0
   pub room : total ≤ left
 
--- a Catalogue (z is 13) or a Header (z is 16), record n, of `total` words, in the order 7, 8: "the first such word", "the word of the first such byte"
+-- a Catalogue (z is 13) or a Header (z is 16), record n, of `total` words, in the order 7, 8: the "first such word", the "word of the first such byte"
 unfoldable pub judgeContent : ℕ → ℕ → ℕ → List ℕ → Verdict ℕ
 judgeContent n z total rest =
     let front = words rest z 40 in
