@@ -1,7 +1,6 @@
 use Rattle.read_first_line.proofs.Heads.{counts-is}
 use Rattle.record.specs.Counts.{countsOf, inRange}
 use denote.Ref.{now}
-use native.Mathlib.Omega.{arith}
 use mathlib.Core.Path.{_≡_, sym, ap, _∙_}
 use borrow.Author.Tests.{lt-ltb, le-ltb}
 use borrow.Author.Needs.{needs}

@@ -1,5 +1,4 @@
 use Rattle.read_first_line.proofs.Steps.{flaw-stops, good-passes}
-use Rattle.read_first_line.specs.FirstLine.{counts}
 use Rattle.read_columns.specs.Cases.{checkedOf}
 use Rattle.read_columns.specs.Columns.{blankAfter}
 use denote.Ref.{now}

@@ -12,7 +12,6 @@ use lib.ListN.{getD}
 use Rattle.read_first_line.proofs.Steps.{stops, same-step}
 use Rattle.read_first_line.proofs.Fronts.{first-least, least-take}
 use denote.Ref.{now}
-use native.Mathlib.Omega.{arith}
 use borrow.Author.Needs.{needs}
 use Rattle.read_first_line.proofs.first_line.Statement.{statement}
 use Rattle.read_first_line.proofs.first_line.Tie as tie

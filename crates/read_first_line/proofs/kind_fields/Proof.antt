@@ -1,6 +1,5 @@
 use Rattle.read_first_line.proofs.Heads.{kind-is}
 use denote.Ref.{now}
-use mathlib.Core.Path.{sym, _∙_}
 use borrow.Author.Tests.{eq-eqb, ne-eqb}
 use borrow.Author.Needs.{needs}
 use Rattle.read_first_line.proofs.kind_fields.Statement.{statement}

@@ -6,7 +6,7 @@ use Rattle.units.specs.Answers.{passed, onward}
 use denote.Ref.{now}
 use lib.ListN.{getD, take}
 use native.Mathlib.Omega.{arith}
-use Prim.Native.Nat.{_+_, _-_, _*_, _≤_, min}
+use Prim.Native.Nat.{_+_, _-_, _*_, min}
 use mathlib.Core.Path.{_≡_, sym, ap, subst, _∙_}
 use mathlib.Core.List.{_++_}
 use Rattle.read_columns.specs.Cases.{checkedOf}

@@ -1,7 +1,6 @@
 use denote.Ref.{now}
 use mathlib.Core.Path.{refl, sym, ap}
 use Prim.Native.Nat.{_+_}
-use native.Mathlib.Omega.{arith}
 use Rattle.read_first_line.specs.State.{toCome}
 use Rattle.read_first_line.proofs.Steps.{same-step, flaw-ends, good-goes, passed-stand}
 use Rattle.read_line.proofs.Later.{card-is, card-size}
