@@ -1,5 +1,4 @@
 use Rattle.record.specs.Judging.{judgeCounts}
-use native.Mathlib.Omega.{arith}
 use borrow.Author.Tests.{eq-eqb, ne-eqb, lt-ltb, le-ltb}
 use borrow.Author.Needs.{needs}
 use Rattle.record.proofs.judge_counts.Statement.{statement}
