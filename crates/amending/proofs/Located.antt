@@ -12,7 +12,7 @@ use lib.Seq.{slice, split-at}
 use Rattle.units.specs.Choice.{if_then_else_}
 use Rattle.units.specs.Answers.{answer, passed, refused}
 use Rattle.units.specs.declared.Words.{Words}
-use Rattle.words.specs.Words.{wordsOf, joined, Below}
+use Rattle.words.specs.Words.{wordsOf, joined, Below, mostWords}
 use Rattle.words.proofs.Laws.{words-slice}
 use Rattle.record.specs.Rules.{RecordOk}
 use Rattle.record.specs.Values.{isValue}
@@ -47,7 +47,7 @@ pub record Located (b : List ℕ) (n : ℕ) (place size : Words) : Type 0 where
   pub words : slice (place .0) (place .0 + size .0) (wordsOf b) ≡ recordIn (recordsOf b) n
   pub ok : RecordOk (recordIn (recordsOf b) n)
   pub within : place .0 + size .0 < length (wordsOf b)
-  pub most : length (wordsOf b) ≤ 8000
+  pub most : length (wordsOf b) ≤ mostWords
 
 module _ (b : List ℕ) (bytes : Below 256 b) (accepted : Accepted b) (n : ℕ) (p : Place) (q : p ≡ findOf (wordsOf b) 1 n) where
   found-is : p ≡ (if noRecord (recordsOf b) n then NoMore else recordAt (1 + length (joined (take (n - 1) (recordsOf b)))) (length (recordIn (recordsOf b) n)))

@@ -18,12 +18,12 @@ use Rattle.block.specs.Records.{recordsOf}
 use Rattle.block.specs.Rules.{blockOf}
 use Rattle.sheet.specs.Sheets.{Layout, Entry, sheetOf, entriesOf, opened}
 use Rattle.sheet.proofs.Sheets.{opened-sheet, sheet-opened}
-use Rattle.amending.specs.declared.Refusal.{Refusal}
+use Rattle.amending.specs.declared.Objection.{Objection}
 use Rattle.amending.specs.declared.Amended.{Amended}
 use Rattle.amending.specs.declared.Amended.the-variants as amended
 use Rattle.amending.specs.declared.Spot.{Spot}
 use Rattle.amending.specs.declared.Spot.the-variants.{Value, Refused}
-use Rattle.amending.specs.Cases.{refusalOf, amendedOf, spotOf}
+use Rattle.amending.specs.Cases.{objectionOf, amendedOf, spotOf}
 use Rattle.amending.specs.Places.{oldValue, newValue, withValue}
 use Rattle.amending.specs.Amending.{Both, buffers, both, amendable, undoable, lastOf, leaving, onBoth, amend, undo}
 use Rattle.amending.specs.Between.{Ready, Exchanged}
@@ -32,13 +32,13 @@ use Rattle.amending.proofs.Steps.{amend-places, it-stands, undo-empty, 
 
 -- what the look at block and sheet has found
 module _ (y : Layout) (b s : List ℕ) (a : Amended) (e : amendedOf a ≡ onward (judged b) (λ _. opened y s)) where
-  pub look-refused : (r : Refusal) → a ≡ amended.Refused r → (does : Both → Verdict Both) → buffers (refusalOf r) b s ≡ onBoth y does b s
+  pub look-refused : (r : Objection) → a ≡ amended.Refused r → (does : Both → Verdict Both) → buffers (objectionOf r) b s ≡ onBoth y does b s
   unfolding onBoth
   look-refused r f does = by (judged b) (opened y s) (sym e ∙ ap amendedOf f)
     where
-      by : (j o : Verdict ℕ) → onward j (λ _. o) ≡ refused (refusalOf r) → buffers (refusalOf r) b s ≡ leaving y b s (onward j (λ _. onward o (λ _. does (both (recordsOf b) (entriesOf y s)))))
-      by (refused x) o q = let z : refusalOf r ≡ x = cc in rw z
-      by (passed k) (refused x) q = let z : refusalOf r ≡ x = cc in rw z
+      by : (j o : Verdict ℕ) → onward j (λ _. o) ≡ refused (objectionOf r) → buffers (objectionOf r) b s ≡ leaving y b s (onward j (λ _. onward o (λ _. does (both (recordsOf b) (entriesOf y s)))))
+      by (refused x) o q = let z : objectionOf r ≡ x = cc in rw z
+      by (passed k) (refused x) q = let z : objectionOf r ≡ x = cc in rw z
       by (passed k) (passed n) q = absurd (never-passed (sym q))
 
   pub look-ready : ((i : ℕ) → Fits w8 (getD b i 0)) → ((i : ℕ) → Fits w8 (getD s i 0)) → (count : ℕ) → a ≡ amended.Standing count → Ready y b s count
@@ -75,7 +75,7 @@ module _ {y : Layout} {b s : List ℕ} {count : ℕ} (h : Ready y b s count) whe
       amend-is : amendable y e (both (recordsOf b) (entriesOf y s)) ≡ onward (spotOf spot) (λ _. passed (both (withValue (recordsOf b) e (newValue e)) (entriesOf y s ++ e ∷ [])))
       amend-is = rw (x .place) (amend-places y e (recordsOf b) (entriesOf y s) (omega (arith, h .holds .count-is)))
 
-      pub amend-refused : (r : Refusal) → spot ≡ Refused r → buffers (refusalOf r) b′ s ≡ amend y e b s
+      pub amend-refused : (r : Objection) → spot ≡ Refused r → buffers (objectionOf r) b′ s ≡ amend y e b s
       amend-refused r q = rw (x .left, q) (refuses (amendable y e) (rw q at amend-is))
 
       pub amend-done : new ≡ newValue e → (at : Words) {s′ : List ℕ} → spot ≡ Value at → s′ ≡ sheetOf y (entriesOf y s ++ e ∷ []) → buffers (answer 0 (count + 1) 0 0) b′ s′ ≡ amend y e b s
@@ -96,7 +96,7 @@ module _ {y : Layout} {b s : List ℕ} {count : ℕ} (h : Ready y b s count) whe
     last : lastOf (entriesOf y s) ≡ e
     last = rw (← (h .holds .count-is)) (sym is-last)
 
-    pub undo-refused : (r : Refusal) → spot ≡ Refused r → buffers (answer 46 0 0 0) b′ s ≡ undo y b s
+    pub undo-refused : (r : Objection) → spot ≡ Refused r → buffers (answer 46 0 0 0) b′ s ≡ undo y b s
     undo-refused r q = rw (x .left, q) (refuses undoable (undo-no-place (recordsOf b) (entriesOf y s) some e last (sym (x .place) ∙ ap spotOf q)))
 
     pub undo-done : back ≡ oldValue e → (at : Words) {s′ : List ℕ} → spot ≡ Value at → s′ ≡ sheetOf y (take (count - 1) (entriesOf y s)) → buffers (answer 0 (count - 1) 0 0) b′ s′ ≡ undo y b s

@@ -24,10 +24,10 @@ use Rattle.block.proofs.Exact.{frame-of, only-good, words-are}
 use Rattle.sheet.specs.Sheets.{Entry}
 use Rattle.amending.specs.Places.{recordNumber, wordNumber, recordIn, noRecord, noValue, found, valuePlace, withValue, patched}
 use Rattle.amending.specs.Between.{Exchanged}
-use Rattle.amending.specs.declared.Refusal.{Refusal}
+use Rattle.amending.specs.declared.Objection.{Objection}
 use Rattle.amending.specs.declared.Spot.{Spot}
 use Rattle.amending.specs.declared.Spot.the-variants.{Value, Refused}
-use Rattle.amending.specs.Cases.{refusalOf, spotOf}
+use Rattle.amending.specs.Cases.{objectionOf, spotOf}
 use Rattle.amending.proofs.Named.{is-record, Named, named-inside, named-value}
 
 -- a word of a frame changed in its place, and the last word with it
@@ -97,7 +97,7 @@ module _ (b : List ℕ) (rs : List (List ℕ)) (g : IsBlock b rs) (e : Entry) (v
 -- ---- an exchange of values
 
 module _ (b : List ℕ) (e : Entry) (old : ℕ) (spot : Spot) (q : spotOf spot ≡ valuePlace (recordsOf b) e old) where
-  pub exchange-refused : (new : ℕ) (r : Refusal) → spot ≡ Refused r → Exchanged b e old new (refused (refusalOf r)) b
+  pub exchange-refused : (new : ℕ) (r : Objection) → spot ≡ Refused r → Exchanged b e old new (refused (objectionOf r)) b
   exchange-refused new r f = record { place = ap spotOf (sym f) ∙ q; left = refl }
 
   module _ (bytes : Below 256 b) (accepted : Accepted b) (at : Words) (f : spot ≡ Value at) where

@@ -19,10 +19,10 @@ ghost use Rattle.amending.specs.Places.{valueIn, valuePlace, patched};
 ghost use Rattle.amending.specs.Amending as spec;
 ghost use Rattle.amending.specs.Amending.{buffers};
 ghost use Rattle.amending.specs.Between.{Ready, Exchanged};
-ghost use Rattle.amending.specs.Cases.{refusalOf, amendedOf, spotOf};
+ghost use Rattle.amending.specs.Cases.{objectionOf, amendedOf, spotOf};
 
 // Why an amendment or its undoing is refused.
-pub enum Refusal {
+pub enum Objection {
     Block(block::Refusal),
     Broken,
     NoRecord,
@@ -36,13 +36,13 @@ pub enum Refusal {
 // What becomes of a block and its sheet: how many amendments stand, or a refusal that leaves both.
 pub enum Amended {
     Standing(u16),
-    Refused(Refusal),
+    Refused(Objection),
 }
 
 // A value's place, as the words of the block before it; or why there is none.
 pub enum Spot {
     Value(Words),
-    Refused(Refusal),
+    Refused(Objection),
 }
 
 // Word `word` of a good record with `at` words of the block before it, if it may be amended and is `value`.
@@ -52,12 +52,12 @@ fn value_in(whole: &[u8], at: Words, word: u16, value: u16) -> Spot
 {
     let number = units::words_said(word);
     if !record::is_value(whole, number) {
-        return Spot::Refused(Refusal::NoValue);
+        return Spot::Refused(Objection::NoValue);
     }
     let i = number.0 - 1;
     let found = words::word_at(whole, Words(i));
     if value != found {
-        return Spot::Refused(Refusal::Differs(found));
+        return Spot::Refused(Objection::Differs(found));
     }
     let start = at.0;
     Spot::Value(Words(start + i))
@@ -69,12 +69,12 @@ fn find_value(block: &[u8], e: Amendment, value: u16) -> Spot
     ensures { λ r. ⌜ spotOf r ≡ valuePlace (recordsOf (now (block .entry))) (entryOf e) value ⌝ }
 {
     match block::find(block, e.number) {
-        Place::NoMore => Spot::Refused(Refusal::NoRecord),
+        Place::NoMore => Spot::Refused(Objection::NoRecord),
         Place::Record(at, size) => {
             let start = at.0;
             let count = size.0;
             let end = start + count;
-            value_in(words::part(block, at, Words(end)), at, e.word, value)
+            value_in(words::span(block, at, Words(end)), at, e.word, value)
         }
     }
 }
@@ -109,7 +109,7 @@ fn look(block: &[u8], sheet: &[u8]) -> Amended
     ensures { λ r. ⌜ amendedOf r ≡ onward (judged (now (block .entry))) (λ _. opened version1 (now (sheet .entry))) ⌝ }
 {
     match block::judge(block) {
-        Judged::Refused(r) => Amended::Refused(Refusal::Block(r)),
+        Judged::Refused(r) => Amended::Refused(Objection::Block(r)),
         Judged::Records(_) => look_at_sheet(sheet),
     }
 }
@@ -119,7 +119,7 @@ fn look_at_sheet(sheet: &[u8]) -> Amended
     ensures { λ r. ⌜ amendedOf r ≡ opened version1 (now (sheet .entry)) ⌝ }
 {
     match sheet::open(sheet) {
-        Opened::Broken => Amended::Refused(Refusal::Broken),
+        Opened::Broken => Amended::Refused(Objection::Broken),
         Opened::Standing(count) => Amended::Standing(count),
     }
 }
@@ -130,7 +130,7 @@ fn amend_next(block: &mut [u8], sheet: &mut [u8], count: u16, e: Amendment) -> A
     ensures { λ r. ⌜ buffers (answered (amendedOf r)) (now (block .exit)) (now (sheet .exit)) ≡ spec.amend version1 (entryOf e) (now (block .entry)) (now (sheet .entry)) ⌝ }
 {
     if sheet::LIMIT <= count {
-        return Amended::Refused(Refusal::Full);
+        return Amended::Refused(Objection::Full);
     }
     match exchange(block, e, e.old, e.new) {
         Spot::Refused(r) => Amended::Refused(r),
@@ -157,12 +157,12 @@ fn undo_last(block: &mut [u8], sheet: &mut [u8], count: u16) -> Amended
     ensures { λ r. ⌜ buffers (answered (amendedOf r)) (now (block .exit)) (now (sheet .exit)) ≡ spec.undo version1 (now (block .entry)) (now (sheet .entry)) ⌝ }
 {
     if count == 0 {
-        return Amended::Refused(Refusal::Empty);
+        return Amended::Refused(Objection::Empty);
     }
     let left = count - 1;
     let e = sheet::entry_at(sheet, left);
     match exchange(block, e, e.new, e.old) {
-        Spot::Refused(_) => Amended::Refused(Refusal::NotStanding),
+        Spot::Refused(_) => Amended::Refused(Objection::NotStanding),
         Spot::Value(_) => {
             sheet::clear_last(sheet, left);
             Amended::Standing(left)
@@ -181,18 +181,18 @@ pub fn undo(block: &mut [u8], sheet: &mut [u8]) -> Amended
 }
 
 // The four numbers of a refusal.
-fn refusal_numbers(r: Refusal) -> Answer
-    ensures { λ s. ⌜ (s ≡ refusalOf r) × (s .a < 65536) ⌝ }
+fn objection_numbers(r: Objection) -> Answer
+    ensures { λ s. ⌜ (s ≡ objectionOf r) × (s .a < 65536) ⌝ }
 {
     match r {
-        Refusal::Block(b) => block::refusal_numbers(b),
-        Refusal::Broken => units::row(40, 0, 0, 0),
-        Refusal::NoRecord => units::row(41, 0, 0, 0),
-        Refusal::NoValue => units::row(42, 0, 0, 0),
-        Refusal::Differs(found) => units::row(43, found, 0, 0),
-        Refusal::Full => units::row(44, 0, 0, 0),
-        Refusal::Empty => units::row(45, 0, 0, 0),
-        Refusal::NotStanding => units::row(46, 0, 0, 0),
+        Objection::Block(b) => block::refusal_numbers(b),
+        Objection::Broken => units::row(40, 0, 0, 0),
+        Objection::NoRecord => units::row(41, 0, 0, 0),
+        Objection::NoValue => units::row(42, 0, 0, 0),
+        Objection::Differs(found) => units::row(43, found, 0, 0),
+        Objection::Full => units::row(44, 0, 0, 0),
+        Objection::Empty => units::row(45, 0, 0, 0),
+        Objection::NotStanding => units::row(46, 0, 0, 0),
     }
 }
 
@@ -202,6 +202,6 @@ pub fn numbers(a: Amended) -> Answer
 {
     match a {
         Amended::Standing(count) => units::row(0, count, 0, 0),
-        Amended::Refused(r) => refusal_numbers(r),
+        Amended::Refused(r) => objection_numbers(r),
     }
 }

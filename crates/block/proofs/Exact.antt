@@ -27,18 +27,18 @@ use Rattle.block.proofs.Walk.{walk-on, walk-end}
 -- ---- the records
 
 -- the records that a walk accepts: they keep the rules, and are all that there is
-pub record Cut (ws : List ℕ) (rs : List (List ℕ)) (n k : ℕ) : Type 0 where
+pub record CutInto (ws : List ℕ) (rs : List (List ℕ)) (n k : ℕ) : Type 0 where
   pub each : All RecordOk rs
   pub parts : joined rs ≡ ws
   pub count : n + length rs ≡ k + 1
 
-no-records : (n k : ℕ) → 1 ≤ n → passed (n - 1) ≡ passed k → Cut [] [] n k
+no-records : (n k : ℕ) → 1 ≤ n → passed (n - 1) ≡ passed k → CutInto [] [] n k
 unfolding joined
 no-records n k h e =
     let q : n - 1 ≡ k = cc in
     record { each = tt; parts = refl; count = omega arith }
 
-walked : (skip n k : ℕ) (ws : List ℕ) → 1 ≤ n → Below 65536 ws → walk skip n ws ≡ passed k → Cut (drop skip ws) (cut skip ws) n k
+walked : (skip n k : ℕ) (ws : List ℕ) → 1 ≤ n → Below 65536 ws → walk skip n ws ≡ passed k → CutInto (drop skip ws) (cut skip ws) n k
 unfolding walk cut joined
 walked skip n k [] h b e = rw drop-nil (no-records n k h e)
 walked (suc skip) n k (w ∷ ws) h b e = walked skip n k ws h (b .1) e
@@ -47,7 +47,7 @@ walked zero n k (w ∷ ws) h b e = by (judgeRecord n (w ∷ ws)) refl (λ j. wal
     rest : List ℕ
     rest = w ∷ ws
 
-    one : (j : ℕ) → judgeRecord n rest ≡ passed (suc j) → Cut (drop j ws) (cut j ws) (n + 1) k → Cut rest (take (suc j) rest ∷ cut j ws) n k
+    one : (j : ℕ) → judgeRecord n rest ≡ passed (suc j) → CutInto (drop j ws) (cut j ws) (n + 1) k → CutInto rest (take (suc j) rest ∷ cut j ws) n k
     one j q r =
         record {
           each = (record-ok rest (suc j) b (record-passed n rest (suc j) q), r .each);
@@ -55,8 +55,8 @@ walked zero n k (w ∷ ws) h b e = by (judgeRecord n (w ∷ ws)) refl (λ j. wal
           count = omega (arith, r .count);
         }
 
-    by : (v : Verdict ℕ) → judgeRecord n rest ≡ v → ((j : ℕ) → walk (j - 1) (n + 1) ws ≡ passed k → Cut (drop (j - 1) ws) (cut (j - 1) ws) (n + 1) k)
-        → Cut rest (take w rest ∷ cut (w - 1) ws) n k
+    by : (v : Verdict ℕ) → judgeRecord n rest ≡ v → ((j : ℕ) → walk (j - 1) (n + 1) ws ≡ passed k → CutInto (drop (j - 1) ws) (cut (j - 1) ws) (n + 1) k)
+        → CutInto rest (take w rest ∷ cut (w - 1) ws) n k
     by (refused a) q ih = absurd (never-passed (rw q at e))
     by (passed zero) q ih = absurd (omega (arith, passed-size n rest zero q .least))
     by (passed (suc j)) q ih =
@@ -78,11 +78,11 @@ cut-on (w ∷ r) rest e h =
     rw (s, sub-one) (ap₂ (λ (x : List ℕ) (y : List (List ℕ)). x ∷ y) (rw (← s) (take-append-seam (w ∷ r) rest)) (cut-drop (length r) (r ++ rest) ∙ ap (cut 0) (drop-append-seam r rest)))
 
 -- a good record passes where it stands first, and has 16 words or more
-passes : (n : ℕ) (r tail : List ℕ) → RecordOk r → judgeRecord n (r ++ tail) ≡ passed (length r)
-passes n r tail h = passed-record n (r ++ tail) (length r) (ok-passes r tail h)
+first-passes : (n : ℕ) (r tail : List ℕ) → RecordOk r → judgeRecord n (r ++ tail) ≡ passed (length r)
+first-passes n r tail h = passed-record n (r ++ tail) (length r) (ok-passes r tail h)
 
 pub ok-long : (r : List ℕ) → RecordOk r → 16 ≤ length r
-ok-long r h = passed-size 1 (r ++ []) (length r) (passes 1 r [] h) .least
+ok-long r h = passed-size 1 (r ++ []) (length r) (first-passes 1 r [] h) .least
 
 cut-joined : (rs : List (List ℕ)) → All RecordOk rs → cut 0 (joined rs) ≡ rs
 unfolding joined cut
@@ -94,7 +94,7 @@ unfolding joined
 walk-joined [] n h = walk-end n ∙ ap (λ j. passed (j - 1)) (omega arith)
 walk-joined (r ∷ rs) n h =
     let long = ok-long r (h .0) in
-    walk-on n (length r) (r ++ joined rs) (omega (arith, length-append r (joined rs))) (passes n r (joined rs) (h .0))
+    walk-on n (length r) (r ++ joined rs) (omega (arith, length-append r (joined rs))) (first-passes n r (joined rs) (h .0))
     ∙ ap (walk 0 (n + 1)) (drop-append-seam r (joined rs))
     ∙ walk-joined rs (n + 1) (h .1)
     ∙ ap (λ j. passed j) (omega arith)
@@ -185,7 +185,7 @@ below-inner b h =
     all-drop (λ w. w < 65536) 1 (take (length ws - 1) ws) (all-take (λ w. w < 65536) (length ws - 1) ws (words-below b h))
 
 -- the records of an accepted block
-pub cut-of : (b : List ℕ) (k : ℕ) → Below 256 b → FrameOk b k → Cut (inner (wordsOf b)) (recordsOf b) 1 k
+pub cut-of : (b : List ℕ) (k : ℕ) → Below 256 b → FrameOk b k → CutInto (inner (wordsOf b)) (recordsOf b) 1 k
 unfolding recordsOf
 cut-of b k h f = walked 0 1 k (inner (wordsOf b)) (omega arith) (below-inner b h) (f .records)
 

@@ -32,8 +32,8 @@ abbrev pub KnownBlock : Verdict ℕ → Type 0
 KnownBlock v = Known BlockRow (λ a. a < 2 ^ 16) v
 
 -- refusal n at record k, with b and c
-told : (n k b c : ℕ) → BlockRow n → k < 2 ^ 16 → b < 2 ^ 16 → c < 2 ^ 16 → Told BlockRow (answer n k b c)
-told n k b c hn hk hb hc =
+told-at : (n k b c : ℕ) → BlockRow n → k < 2 ^ 16 → b < 2 ^ 16 → c < 2 ^ 16 → Told BlockRow (answer n k b c)
+told-at n k b c hn hk hb hc =
     record { listed = hn; packs = omega arith }
 
 -- one row of the order: its numbers need only be known where its test holds, and the rest where it does not
@@ -46,13 +46,13 @@ module _ (n : ℕ) (hn : n < 2 ^ 16) (rest : List ℕ) (below : word rest 1 < 2 
   cards-known z low high =
       let front = words rest z 40 in
       let cards = words rest 41 (word rest 1) in
-      row (wrongTotal (word rest 1) (length rest)) (answer 6 n 1 0) _ (λ _. told 6 n 1 0 (omega arith) hn (omega arith) (omega arith))
+      row (wrongTotal (word rest 1) (length rest)) (answer 6 n 1 0) _ (λ _. told-at 6 n 1 0 (omega arith) hn (omega arith) (omega arith))
       (λ w. let right = total-right (word rest 1) (length rest) w in
       row (someFails isZero front) (answer 7 n (z + passing isZero front) 0) _
-      (λ t. told 7 n (z + passing isZero front) 0 (omega arith) hn
+      (λ t. told-at 7 n (z + passing isZero front) 0 (omega arith) hn
       (omega (arith, ltb-true (passing isZero front) (length front) t, length-slice (z - 1) 40 rest (omega arith))) (omega arith))
       (λ _. row (someFails cardWord cards) (answer 8 n (41 + passing cardWord cards) 0) _
-      (λ t. told 8 n (41 + passing cardWord cards) 0 (omega arith) hn
+      (λ t. told-at 8 n (41 + passing cardWord cards) 0 (omega arith) hn
       (omega (arith, ltb-true (passing cardWord cards) (length cards) t, length-slice 40 (word rest 1) rest (right .room))) (omega arith))
       (λ _. below)))
 
@@ -60,19 +60,19 @@ module _ (n : ℕ) (hn : n < 2 ^ 16) (rest : List ℕ) (below : word rest 1 < 2 
   unfolding judgeData judgeCounts
   data-known =
       let c = countsOf rest in
-      row (wrongDataTotal (word rest 1) (length rest)) (answer 6 n 1 0) _ (λ _. told 6 n 1 0 (omega arith) hn (omega arith) (omega arith))
+      row (wrongDataTotal (word rest 1) (length rest)) (answer 6 n 1 0) _ (λ _. told-at 6 n 1 0 (omega arith) hn (omega arith) (omega arith))
       (λ _. row (ltb (inRange c) 4) (answer 9 n (13 + inRange c) 0) _
-      (λ t. told 9 n (13 + inRange c) 0 (omega arith) hn (omega (arith, ltb-true (inRange c) 4 t)) (omega arith))
-      (λ _. row (not (eqb (word rest 1) (wordsNeeded c))) (answer 9 n 1 0) _ (λ _. told 9 n 1 0 (omega arith) hn (omega arith) (omega arith))
+      (λ t. told-at 9 n (13 + inRange c) 0 (omega arith) hn (omega (arith, ltb-true (inRange c) 4 t)) (omega arith))
+      (λ _. row (not (eqb (word rest 1) (wordsNeeded c))) (answer 9 n 1 0) _ (λ _. told-at 9 n 1 0 (omega arith) hn (omega arith) (omega arith))
       (λ _. below)))
 
   record-known : KnownBlock (judgeRecord n rest)
   unfolding judgeRecord
   record-known =
-      row (ltb (length rest) 16) (answer 4 n 1 0) _ (λ _. told 4 n 1 0 (omega arith) hn (omega arith) (omega arith))
+      row (ltb (length rest) 16) (answer 4 n 1 0) _ (λ _. told-at 4 n 1 0 (omega arith) hn (omega arith) (omega arith))
       (λ _. both-ways KnownBlock (eqb (word rest 2) 2001) (judgeCards n 13 rest) _ (cards-known 13 (omega arith) (omega arith))
       (both-ways KnownBlock (eqb (word rest 2) 3002) (judgeCards n 16 rest) _ (cards-known 16 (omega arith) (omega arith))
-      (both-ways KnownBlock (eqb (word rest 2) 1002) (judgeData n rest) (refused (answer 5 n 2 0)) data-known (told 5 n 2 0 (omega arith) hn (omega arith) (omega arith)))))
+      (both-ways KnownBlock (eqb (word rest 2) 1002) (judgeData n rest) (refused (answer 5 n 2 0)) data-known (told-at 5 n 2 0 (omega arith) hn (omega arith) (omega arith)))))
 
 walk-known : (skip n : ℕ) (ws : List ℕ) → n + length ws < 2 ^ 16 → Below 65536 ws → KnownBlock (walk skip n ws)
 unfolding walk
@@ -92,10 +92,10 @@ judged-known b bytes =
     let stored = word ws (length ws) in
     let below = words-below b bytes in
     let front = all-take (λ w. w < 65536) (length ws - 1) ws below in
-    row (wrongSize (length b)) (answer 1 0 0 0) _ (λ _. told 1 0 0 0 (omega arith) (omega arith) (omega arith) (omega arith))
+    row (wrongSize (length b)) (answer 1 0 0 0) _ (λ _. told-at 1 0 0 0 (omega arith) (omega arith) (omega arith) (omega arith))
     (λ t. let s = size-right b t in
-    row (not (eqb (word ws 1) (length ws))) (answer 2 0 0 0) _ (λ _. told 2 0 0 0 (omega arith) (omega arith) (omega arith) (omega arith))
+    row (not (eqb (word ws 1) (length ws))) (answer 2 0 0 0) _ (λ _. told-at 2 0 0 0 (omega arith) (omega arith) (omega arith) (omega arith))
     (λ _. row (not (eqb stored (checksumOf ws))) (answer 3 0 0 (ones (bitXor stored (checksumOf ws)))) _
-    (λ _. told 3 0 0 (ones (bitXor stored (checksumOf ws))) (omega arith) (omega arith) (omega arith)
+    (λ _. told-at 3 0 0 (ones (bitXor stored (checksumOf ws))) (omega arith) (omega arith) (omega arith)
     (omega (arith, ones-le 16 (bitXor stored (checksumOf ws)) (xor-lt 16 stored (checksumOf ws) (getD-below 65536 ws (length ws - 1) (omega arith) below) (fold-below (take (length ws - 1) ws) front)))))
     (λ _. walk-known 0 1 (inner ws) (omega (arith, length-slice 1 (length ws - 1) ws (omega arith))) (all-drop (λ w. w < 65536) 1 (take (length ws - 1) ws) front))))

@@ -10,12 +10,12 @@ use Rattle.record.specs.Rules.{RecordOk}
 use Rattle.block.specs.Judging.{Accepted}
 use Rattle.block.specs.Records.{recordsOf}
 use Rattle.block.specs.Steps.{wordsAt, recordFrom}
-use Rattle.block.proofs.Placed.{Left, first-left, none-left, all-left}
+use Rattle.block.proofs.Placed.{LeftFrom, first-left, none-left, all-left}
 
 -- the loop has come to a place: the records that are left there, and what holds of them
 pub record Loop (b : List ℕ) (at : ℕ) (P : List (List ℕ) → Type 0) : Type 0 where
   pub rest : List (List ℕ)
-  pub left : Left (wordsOf b) at rest
+  pub left : LeftFrom (wordsOf b) at rest
   pub holds : P rest
 
 -- a turn: the part that is lent, of n words, is the first record that is left
@@ -28,7 +28,7 @@ pub record Turn {b : List ℕ} {at : ℕ} {P : List (List ℕ) → Type 0} (l : 
   pub long : 16 ≤ n
   pub most : n ≤ mostRecordWords
   pub within : at + n < length (wordsOf b)
-  pub left : Left (wordsOf b) (at + n) others
+  pub left : LeftFrom (wordsOf b) (at + n) others
 
 -- at the start all records are left
 pub loop-start : (b : List ℕ) → Below 256 b → Accepted b → {P : List (List ℕ) → Type 0} → P (recordsOf b) → Loop b 1 P
@@ -39,14 +39,14 @@ module _ {b : List ℕ} {at : ℕ} {P : List (List ℕ) → Type 0} (l : Loop b 
   its-words : wordsOf part ≡ recordFrom (wordsOf b) at
   its-words = ap wordsOf lent ∙ words-bytes (recordFrom (wordsOf b) at)
 
-  is-first : {r : List ℕ} {rs : List (List ℕ)} → Left (wordsOf b) at (r ∷ rs) → wordsOf part ≡ r
+  is-first : {r : List ℕ} {rs : List (List ℕ)} → LeftFrom (wordsOf b) at (r ∷ rs) → wordsOf part ≡ r
   is-first left = its-words ∙ ap (wordsAt (wordsOf b)) (first-left left .found) ∙ first-left left .words
 
   -- a part with words is the first record
   pub turn : (n ≡ 0 → ⊥) → Turn l part n
   turn some = by (l .rest) (l .left) (l .holds)
     where
-      by : (rs : List (List ℕ)) → Left (wordsOf b) at rs → P rs → Turn l part n
+      by : (rs : List (List ℕ)) → LeftFrom (wordsOf b) at rs → P rs → Turn l part n
       by [] left h = absurd (some (size ∙ ap length (its-words ∙ ap (wordsAt (wordsOf b)) (none-left left))))
       by (r ∷ rs) left h =
           let f = first-left left in
@@ -68,7 +68,7 @@ module _ {b : List ℕ} {at : ℕ} {P : List (List ℕ) → Type 0} (l : Loop b 
   pub loop-end : n ≡ 0 → P []
   loop-end none = by (l .rest) (l .left) (l .holds)
     where
-      by : (rs : List (List ℕ)) → Left (wordsOf b) at rs → P rs → P []
+      by : (rs : List (List ℕ)) → LeftFrom (wordsOf b) at rs → P rs → P []
       by [] left h = h
       by (r ∷ rs) left h = absurd (omega (arith, first-left left .long, ap length (is-first left)))
 

@@ -25,7 +25,7 @@ first-word : (ws : List ℕ) (at : ℕ) (r rest : List ℕ) → drop at ws ≡ r
 first-word ws at r rest e h = sym (rw add-zero at (getD-drop at ws 0 0)) ∙ ap (λ l. getD l 0 0) e ∙ List·getD-append r rest 0 0 h
 
 -- good records that are left from a place on, behind the length word and before the checksum
-pub record Left (ws : List ℕ) (at : ℕ) (rs : List (List ℕ)) : Type 0 where
+pub record LeftFrom (ws : List ℕ) (at : ℕ) (rs : List (List ℕ)) : Type 0 where
   pub each : All RecordOk rs
   pub checksum : ℕ
   pub stand : drop at ws ≡ joined rs ++ (checksum ∷ [])
@@ -33,16 +33,16 @@ pub record Left (ws : List ℕ) (at : ℕ) (rs : List (List ℕ)) : Type 0 where
   pub most : length ws ≤ mostWords
 
 -- the first of them is what a step finds, and behind it the others are left
-pub record First (ws : List ℕ) (at : ℕ) (r : List ℕ) (rs : List (List ℕ)) : Type 0 where
+pub record FirstOfLeft (ws : List ℕ) (at : ℕ) (r : List ℕ) (rs : List (List ℕ)) : Type 0 where
   pub ok : RecordOk r
   pub long : 16 ≤ length r
   pub within : at + length r < length ws
   pub found : stepOf ws at ≡ recordAt at (length r)
   pub words : slice at (at + length r) ws ≡ r
-  pub left : Left ws (at + length r) rs
+  pub left : LeftFrom ws (at + length r) rs
 
 module _ {ws : List ℕ} {at : ℕ} where
-  pub first-left : {r : List ℕ} {rs : List (List ℕ)} → Left ws at (r ∷ rs) → First ws at r rs
+  pub first-left : {r : List ℕ} {rs : List (List ℕ)} → LeftFrom ws at (r ∷ rs) → FirstOfLeft ws at r rs
   unfolding joined stepOf
   first-left {r} {rs} l =
       let n = length r in
@@ -71,7 +71,7 @@ module _ {ws : List ℕ} {at : ℕ} where
       }
 
   -- where none is left a step finds none
-  pub none-left : Left ws at [] → stepOf ws at ≡ NoMore
+  pub none-left : LeftFrom ws at [] → stepOf ws at ≡ NoMore
   unfolding joined stepOf
   none-left l = by (eqb (getD ws at 0) 0) refl
     where
@@ -81,7 +81,7 @@ module _ {ws : List ℕ} {at : ℕ} where
           let one : length ws ≡ at + 1 = omega (arith, length-drop at ws, ap length (l .stand)) in
           simp (q, lt-ltb (length ws - 1 - at) (getD ws at 0) (omega (arith, eqb-false (getD ws at 0) 0 q)))
 
-finds : (ws : List ℕ) (rs : List (List ℕ)) (at n : ℕ) → Left ws at rs → findOf ws at n ≡ placed rs at n
+finds : (ws : List ℕ) (rs : List (List ℕ)) (at n : ℕ) → LeftFrom ws at rs → findOf ws at n ≡ placed rs at n
 unfolding findOf placed
 finds ws [] at zero l = refl
 finds ws [] at (suc n) l = rw (none-left l) (by (eqb n 0))
@@ -95,20 +95,20 @@ finds ws (r ∷ rs) at (suc n) l =
     rw (f .found) (ap (λ s. if eqb n 0 then recordAt at (length r) else s) (finds ws rs (at + length r) n (f .left)))
 
 -- behind some of them the others are left
-left-behind : (ws : List ℕ) (before after : List (List ℕ)) (at : ℕ) → Left ws at (before ++ after) → Left ws (at + length (joined before)) after
+left-behind : (ws : List ℕ) (before after : List (List ℕ)) (at : ℕ) → LeftFrom ws at (before ++ after) → LeftFrom ws (at + length (joined before)) after
 unfolding joined
 left-behind ws [] after at l = rw add-zero l
 left-behind ws (r ∷ before) after at l = rw (length-append, ← add-assoc) (left-behind ws before after (at + length r) (first-left l .left))
 
 module _ (b : List ℕ) (k : ℕ) (bytes : Below 256 b) (accepted : judged b ≡ passed k) where
   -- at the start all records are left
-  pub all-left : Left (wordsOf b) 1 (recordsOf b)
+  pub all-left : LeftFrom (wordsOf b) 1 (recordsOf b)
   unfolding framed
   all-left =
       let good = only-good b k bytes accepted .0 in
       record { each = good .each; checksum = _; stand = ap (drop 1) (words-are b (recordsOf b) good); start = omega arith; most = frame-ok b k accepted .size .most }
 
-  pub others-left : (before after : List (List ℕ)) → recordsOf b ≡ before ++ after → Left (wordsOf b) (1 + length (joined before)) after
+  pub others-left : (before after : List (List ℕ)) → recordsOf b ≡ before ++ after → LeftFrom (wordsOf b) (1 + length (joined before)) after
   others-left before after e = left-behind (wordsOf b) before after 1 (rw e at all-left)
 
   pub step-record : (before after : List (List ℕ)) (r : List ℕ) → recordsOf b ≡ before ++ r ∷ after

@@ -21,17 +21,17 @@ unfolding stepOf
 step-beyond ws at h = simp (List·getD-eq-default ws 0 {n = at} h)
 
 -- a record that a step finds lies before the last word
-pub record Found (ws : List ℕ) (at place size : ℕ) : Type 0 where
+pub record FoundBefore (ws : List ℕ) (at place size : ℕ) : Type 0 where
   pub here : place ≡ at
   pub some : 1 ≤ size
   pub within : at + size < length ws
 
-pub step-found : (ws : List ℕ) (at : ℕ) (place size : Words) → stepOf ws at ≡ Record place size → Found ws at (place .0) (size .0)
+pub step-found : (ws : List ℕ) (at : ℕ) (place size : Words) → stepOf ws at ≡ Record place size → FoundBefore ws at (place .0) (size .0)
 unfolding stepOf
 step-found ws at place size e = by (eqb (getD ws at 0) 0 || ltb (length ws - 1 - at) (getD ws at 0)) refl e
   where
     by : (t : Bool) → (eqb (getD ws at 0) 0 || ltb (length ws - 1 - at) (getD ws at 0)) ≡ t
-        → (if t then NoMore else recordAt at (getD ws at 0)) ≡ Record place size → Found ws at (place .0) (size .0)
+        → (if t then NoMore else recordAt at (getD ws at 0)) ≡ Record place size → FoundBefore ws at (place .0) (size .0)
     by true f g = let z : _≡_ {A = ℕ} 0 1 = cc in absurd (omega arith)
     by false f g =
         let o = or-off (eqb (getD ws at 0) 0) _ f in

@@ -7,9 +7,10 @@ use units::Words;
 ghost use mathlib.Core.Path.{_≡_};
 ghost use Prim.Native.Nat.{_<_, _≤_};
 ghost use lib.ListN.{length};
+ghost use Rattle.units.specs.Answers.{answered};
 ghost use Rattle.words.specs.Words.{wordsOf, bytesOf, mostWords};
 ghost use Rattle.block.specs.Judging.{wrongSize, walk, judged};
-ghost use Rattle.block.specs.Cases.{refusalOf, judgedOf, answerOf};
+ghost use Rattle.block.specs.Cases.{refusalOf, judgedOf};
 ghost use Rattle.block.specs.Steps.{stepOf, recordFrom, findOf};
 
 // Why a block is refused: its frame, or one of its records.
@@ -56,7 +57,7 @@ fn judge_records(inner: &[u8]) -> Judged
     let mut at = 0;
     let mut number: u16 = 1;
     while at < end {
-        match record::judge_record(words::part(inner, Words(at), last), number) {
+        match record::judge_record(words::span(inner, Words(at), last), number) {
             Checked::Refused(f) => return Judged::Refused(Refusal::Record(f)),
             Checked::Passed(size) => {
                 let k = size.0;
@@ -84,17 +85,17 @@ pub fn judge(block: &[u8]) -> Judged
     let end = m - 1;
     let last = Words(end);
     let stored = words::word_at(block, last);
-    let checksum = words::exclusive_or(words::part(block, Words(0), last));
+    let checksum = words::exclusive_or(words::span(block, Words(0), last));
     if stored != checksum {
         let bits = u16::count_ones(stored ^ checksum) as u16;
         return Judged::Refused(Refusal::Checksum(bits));
     }
-    judge_records(words::part(block, Words(1), last))
+    judge_records(words::span(block, Words(1), last))
 }
 
 // The four numbers of an answer.
 pub fn numbers(j: Judged) -> Answer
-    ensures { λ r. ⌜ (r ≡ answerOf j) × (r .a < 65536) ⌝ }
+    ensures { λ r. ⌜ (r ≡ answered (judgedOf j)) × (r .a < 65536) ⌝ }
 {
     match j {
         Judged::Records(k) => units::row(0, k, 0, 0),
@@ -142,7 +143,7 @@ pub fn record_at(block: &[u8], at: Words) -> &[u8]
         return &block[..0];
     };
     let end = place.0 + size.0;
-    words::part(block, place, Words(end))
+    words::span(block, place, Words(end))
 }
 
 // Record `number` of the block, or no more where the block has fewer.

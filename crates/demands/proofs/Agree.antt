@@ -40,7 +40,7 @@ use Rattle.sheet.specs.declared.Opened.the-variants as sheet
 use Rattle.sheet.specs.Cases.{openedOf}
 use Rattle.amending.specs.declared.Amended.{Amended}
 use Rattle.amending.specs.declared.Amended.the-variants as amending
-use Rattle.amending.specs.declared.Refusal.the-variants as rows
+use Rattle.amending.specs.declared.Objection.the-variants as rows
 use Rattle.amending.specs.Cases.{amendedOf}
 use Rattle.amending.specs.Amending.{Outcome}
 use Rattle.demands.specs.Agree.{JudgeAgrees, CedarJudgeAgrees, StepAgrees, FindAgrees, PrefixAgrees, CedarPrefixAgrees, WrittenAgree, CedarWrittenAgree, LinesAgree, CedarLinesAgree, ContentAgrees, BlockAgrees, CedarBlockAgrees, PutAgrees, OpenAgrees, StartAgrees, BothAgree, AmendAgrees, UndoAgrees, CedarStartAgrees, CedarBothAgree, CedarAmendAgrees, CedarUndoAgrees}

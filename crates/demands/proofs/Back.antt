@@ -18,7 +18,7 @@ use Rattle.field.specs.declared.Number.the-variants.{Bad}
 use Rattle.field.specs.Reading.{columns, readField}
 use Rattle.units.proofs.Choosing.{by-test, both-ways}
 use Rattle.units.specs.Units.{Line}
-use Rattle.read_columns.specs.Columns.{plainLine, isBlank, blankTo, blankAfter, blankLine, wordIn, number, numbers, blankField, zeroField, zeros}
+use Rattle.read_columns.specs.Columns.{plainLine, isBlank, blankTo, blankAfter, blankLine, wordIn, number, fieldNumbers, blankField, zeroField, zeroFields}
 use Rattle.read_columns.proofs.Columns.{right-to, columns-part}
 use Rattle.read_first_line.specs.FirstLine.{Shape, card, fields, gives, firstLine}
 use Rattle.read_line.specs.Lines.{rowFields, inState, readLine, readLines}
@@ -42,8 +42,8 @@ unfolding blankAfter
 blank-back num l c h = sym (right-to 26 num l (blankTo c l) (omega (arith, blank-all (drop c l) h, length-drop c l)))
 
 -- a blank field is seen to be one
-blank-field : (l : Line) (k : ℕ) → Blanks (columns 6 l (6 * k)) → blankField l k ≡ true
-blank-field l k h =
+blank-seen : (l : Line) (k : ℕ) → Blanks (columns 6 l (6 * k)) → blankField l k ≡ true
+blank-seen l k h =
     let here = drop (6 * k) l in
     let field = blank-all (take 6 here) (columns-part (λ b. b ≡ 32) 6 l (6 * k) h) in
     le-leb (min (6 * k + 6) (length l)) (blankTo (6 * k) l) (omega (arith, scan-take isBlank 6 here, length-take 6 here, length-drop (6 * k) l))
@@ -56,9 +56,9 @@ blank-bad l h = rw (column 0, column 1, column 2, column 3, column 4, column 5) 
     column : (i : ℕ) → getD l i 32 ≡ 32
     column i = all-getD (λ b. b ≡ 32) l i 32 refl h
 
-pub first-line : (num held : ℕ) (l : Line) (w : ℕ) → Spells l 0 w → inState num held [] l ≡ firstLine num held l
+pub is-first-line : (num held : ℕ) (l : Line) (w : ℕ) → Spells l 0 w → inState num held [] l ≡ firstLine num held l
 unfolding inState
-first-line num held l w h =
+is-first-line num held l w h =
     by-test (λ v. v ≡ firstLine num held l) (blankLine l) (gives [] []) (firstLine num held l)
     (λ t. absurd (never (blank-bad l (all-blank l (omega (arith, leb-true (length l) (blankTo 0 l) t)))))) (λ _. refl)
   where
@@ -78,22 +78,22 @@ module _ (num : ℕ) (l : Line) where
   unfolding number
   number-back k w h = ap (wordIn num k) h
 
-  numbers-from : (k m : ℕ) (ws : List ℕ) → SpellsAll l k ws → m ≤ length ws → numbers num l k m ≡ passed (take m ws)
-  unfolding numbers
+  numbers-from : (k m : ℕ) (ws : List ℕ) → SpellsAll l k ws → m ≤ length ws → fieldNumbers num l k m ≡ passed (take m ws)
+  unfolding fieldNumbers
   numbers-from k zero ws h s = refl
   numbers-from k (suc m) [] h s = absurd (omega arith)
   numbers-from k (suc m) (w ∷ ws) h s = rw (number-back k w (h .0), numbers-from (suc k) m ws (h .1) (omega arith))
 
-  pub numbers-back : (ws : List ℕ) → SpellsAll l 0 ws → (k m : ℕ) → k + m ≤ length ws → numbers num l k m ≡ passed (take m (drop k ws))
+  pub numbers-back : (ws : List ℕ) → SpellsAll l 0 ws → (k m : ℕ) → k + m ≤ length ws → fieldNumbers num l k m ≡ passed (take m (drop k ws))
   numbers-back ws h k m s = numbers-from k m (drop k ws) (rw zero-add at (spells-drop l 0 k ws h)) (omega (arith, length-drop k ws))
 
   zero-back : (k : ℕ) → SpellsZero l k → zeroField num l k ≡ passed tt
   unfolding zeroField
-  zero-back k (inl b) = simp (blank-field l k b)
+  zero-back k (inl b) = simp (blank-seen l k b)
   zero-back k (inr h) = both-ways (λ v. v ≡ passed tt) (blankField l k) (passed tt) _ refl (rw (number-back k 0 h))
 
-  pub zeros-back : (k m : ℕ) → ((j : ℕ) → k ≤ j → j < k + m → SpellsZero l j) → zeros num l k m ≡ passed tt
-  unfolding zeros
+  pub zeros-back : (k m : ℕ) → ((j : ℕ) → k ≤ j → j < k + m → SpellsZero l j) → zeroFields num l k m ≡ passed tt
+  unfolding zeroFields
   zeros-back k zero h = refl
   zeros-back k (suc m) h = rw (zero-back k (h k (omega arith) (omega arith))) (zeros-back (suc k) m (λ j low high. h j (omega arith) (omega arith)))
 

@@ -6,5 +6,5 @@ use Rattle.demands.specs.ExclusiveOr.{XorLaws, Patched}
 pub xor-laws : XorLaws
 xor-laws = record { associative = xor-assoc; commutative = xor-comm; inverse = xor-twice }
 
-pub patched : Patched
-patched = fold-patched
+pub xor-patched : Patched
+xor-patched = fold-patched

@@ -11,7 +11,7 @@ use lib.Seq.{take-all, take-add, take-take, length-take-le, getD-take}
 use Rattle.units.specs.Choice.{if_then_else_}
 use Rattle.units.specs.Answers.{answer, passed, refused, onward}
 use Rattle.read_columns.specs.Columns.{columnOf}
-use Rattle.words.specs.Words.{word, All}
+use Rattle.words.specs.Words.{word, All, mostRecordWords}
 use Rattle.record.specs.Counts.{countsOf, wordsNeeded, linesNeeded, inRange}
 use Rattle.record.specs.Lines.{lineCount}
 use Rattle.record.specs.Rules.{CardsOk, DataOk, KindOk, catalogue, header, dataRecord, RecordOk}
@@ -22,7 +22,7 @@ use Rattle.write_lines.proofs.Sizes.{is-cards, data-count}
 use Rattle.read_first_line.specs.FirstLine.{card, fields, gives, cards, counts, countsIn, catalogueFields, headerFields, countFields, prologueFields, dataFields, kindFields, firstFields, cardsRoom, dataRoom, headLine, firstLine}
 use Rattle.read_line.specs.Lines.{inState}
 use Rattle.read_text.specs.Spelled.{Blanks, SpellsAll, CardsSpelled}
-use Rattle.demands.proofs.Back.{blank-back, first-line, numbers-back, zeros-back}
+use Rattle.demands.proofs.Back.{blank-back, is-first-line, numbers-back, zeros-back}
 
 -- ---- words that must be zero
 
@@ -66,7 +66,7 @@ module _ (num held a b : ℕ) (ws : List ℕ) where
   abbrev count : ℕ
   count = lineCount it
 
-  module _ (h : RecordOk it) (fits : held + length it ≤ 7998) where
+  module _ (h : RecordOk it) (fits : held + length it ≤ mostRecordWords) where
     -- a Catalogue or a Header
     module _ (ne : b ≡ 1002 → ⊥) where
       whole : length it ≡ 40 * count
@@ -84,7 +84,7 @@ module _ (num held a b : ℕ) (ws : List ℕ) where
           let g = many in
           let t : 40 * count ≡ a = omega (arith, h .total) in
           let m : 40 - suc (suc (length (take z ws))) ≡ 38 - z = omega (arith, length-take-le z ws (omega arith)) in
-          simp (le-ltb count 1 (omega arith), le-ltb 199 count (omega arith), le-ltb 7998 (held + 40 * count) (omega arith))
+          simp (le-ltb count 1 (omega arith), le-ltb 199 count (omega arith), le-ltb mostRecordWords (held + 40 * count) (omega arith))
           (rw (m, zeros-behind z 38 ws k g s) (ap₂ (λ (x y : ℕ). gives (x ∷ (y ∷ take 38 ws)) (replicate (count - 1) card)) t (sym e)))
 
       -- it gives the words before the cards, and the cards are still to come
@@ -98,7 +98,7 @@ module _ (num held a b : ℕ) (ws : List ℕ) where
             let kind : kindShown b ≡ 2101 = ap (λ k. kindShown k) e in
             let spells : SpellsAll l 0 (count ∷ (2101 ∷ take 10 ws)) = rw kind at (s .free) in
             let t = length-take-le 10 ws (omega (arith, many)) in
-            first-line num held l count (spells .0)
+            is-first-line num held l count (spells .0)
             ∙ rw (numbers-back num l (count ∷ (2101 ∷ take 10 ws)) spells 0 12 (omega arith), zeros-back num l 12 8 (s .zeros), take-take 10 10 ws (omega arith))
             (cards-line 2001 2101 10 e (omega arith) (is-catalogue it h e .zeros))
 
@@ -108,7 +108,7 @@ module _ (num held a b : ℕ) (ws : List ℕ) where
             let kind : kindShown b ≡ 3101 = ap (λ k. kindShown k) e in
             let spells : SpellsAll l 0 (count ∷ (3101 ∷ take 13 ws)) = rw kind at (s .free) in
             let t = length-take-le 13 ws (omega (arith, many)) in
-            first-line num held l count (spells .0)
+            is-first-line num held l count (spells .0)
             ∙ rw (
               numbers-back num l (count ∷ (3101 ∷ take 13 ws)) spells 0 12 (omega arith),
               numbers-back num l (count ∷ (3101 ∷ take 13 ws)) spells 12 3 (omega arith),
@@ -151,7 +151,7 @@ module _ (num held a b : ℕ) (ws : List ℕ) where
           let n = data-count it (ap (λ k. eqb k 1002) kind) in
           ap (λ c. onward (dataRoom num held count c) (λ _. gives (wordsNeeded c ∷ (1002 ∷ take q ws)) (map fields (drop 1 (plan c))))) (counts-at q long)
           ∙ rw (← d .sum)
-          (simp (le-ltb 7998 (held + length it) fits, eq-eqb count (linesNeeded (countsOf it)) n)
+          (simp (le-ltb mostRecordWords (held + length it) fits, eq-eqb count (linesNeeded (countsOf it)) n)
           (ap₂ (λ (x y : ℕ). gives (x ∷ (y ∷ take q ws)) (map fields (drop 1 (dataPlan it)))) (sym (h .total)) (sym kind)))
 
       -- the fields behind the counts
@@ -167,7 +167,7 @@ module _ (num held a b : ℕ) (ws : List ℕ) where
           let g = long in
           let l : length front ≡ suc (suc q) = omega (arith, length-take-le q ws room) in
           let e : min (getD (take 14 ws) 10 0) 20 ≡ suc (suc q) = ap (λ k. min k 20) (at 14 10 (omega arith)) ∙ first in
-          first-line num held line count (spells .0)
+          is-first-line num held line count (spells .0)
           ∙ rw (
             numbers-back num line front spells 0 12 (omega arith),
             numbers-back num line front spells 12 4 (omega arith),

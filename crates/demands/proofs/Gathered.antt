@@ -17,8 +17,8 @@ use Rattle.write_lines.proofs.Sizes.{is-cards, data-count}
 use Rattle.read_first_line.specs.FirstLine.{Shape, card, fields, Read}
 use Rattle.read_text.specs.Spelled.{PlainByte, Readable, LineSpells, LinesSpell, no-lines, a-line, CardsSpelled, RecordSpelled, as-catalogue, as-header, as-data}
 use Rattle.read_columns.proofs.Columns.{columns-all}
-use Rattle.read_text.proofs.Columns.{card-words, words-below}
-use Rattle.read_text.proofs.Opened.{wordsToCome, CardsFirst, DataFirst, First, catalogue-first, header-first, data-first, Opens, line-wide, plan-turn}
+use Rattle.read_text.proofs.Columns.{card-words, spelled-below}
+use Rattle.read_text.proofs.Opened.{wordsToCome, CardsFirst, DataFirst, FirstRead, catalogue-first, header-first, data-first, Opens, line-wide, plan-turn}
 
 -- ---- the words of lines after a record's first
 
@@ -28,7 +28,7 @@ card-printed l h = card-words (columns 80 l 0) (columns-all PlainByte (omega ari
 
 line-below : (x : Shape) (l : Line) (ws : List ℕ) → Readable l → LineSpells x l ws → Below 65536 ws
 line-below card l ws r h = rw (h .0) (all-map CardWord (λ w. w < 65536) (λ w c. omega (arith, c .high-most)) (wordsOf (columns 80 l 0)) (card-printed l r))
-line-below (fields n) l ws r h = words-below l 0 ws (h .1)
+line-below (fields n) l ws r h = spelled-below l 0 ws (h .1)
 
 -- and of all such lines
 lines-below : {xs : List Shape} {ls : List Line} {ws : List ℕ} → LinesSpell xs ls ws → All Readable ls → Below 65536 ws
@@ -54,7 +54,7 @@ shown-is a kind (x ∷ []) more h e c = absurd (omega arith)
 shown-is a kind (x ∷ (y ∷ hs)) more h e c = ap₂ (λ (p q : ℕ). p ∷ (q ∷ hs ++ more)) c (sym e)
 
 -- a good record, and its lines
-pub record Done (r : List ℕ) (ls : List Line) : Type 0 where
+pub record WholeRecord (r : List ℕ) (ls : List Line) : Type 0 where
   pub ok : RecordOk r
   pub spelled : RecordSpelled r ls
 
@@ -116,11 +116,11 @@ module _ (held : ℕ) (l : Line) (s : Read) (o : Opens held l s) (now : List Lin
 
     cards-sized : Below 65536 cards-it
     cards-sized =
-        let below = all-drop (λ w. w < 65536) 2 head (words-below l 0 head (f .is .read .spells)) in
+        let below = all-drop (λ w. w < 65536) 2 head (spelled-below l 0 head (f .is .read .spells)) in
         let with-zeros = all-append (λ w. w < 65536) (drop 2 head) zeros below (all-replicate (λ w. w < 65536) (40 - length head) 0 (omega arith)) in
         (total-fits front (f .words), (small, all-append (λ w. w < 65536) (drop 2 head ++ zeros) body with-zeros (lines-below others clean)))
 
-    cards-done : (CardsOk z cards-it → KindOk cards-it) → (CardsSpelled (z - 1) cards-it l now → RecordSpelled cards-it (l ∷ now)) → Done (s .words ++ body) (l ∷ now)
+    cards-done : (CardsOk z cards-it → KindOk cards-it) → (CardsSpelled (z - 1) cards-it l now → RecordSpelled cards-it (l ∷ now)) → WholeRecord (s .words ++ body) (l ∷ now)
     cards-done of spell =
         let ok : RecordOk cards-it = record { total = counted front (f .words); kind = of cards-ok; sized = cards-sized } in
         let c = counted front (f .words) in
@@ -160,19 +160,19 @@ module _ (held : ℕ) (l : Line) (s : Read) (o : Opens held l s) (now : List Lin
         rw (turn, shown-is needed 1002 first body (omega (arith, long)) (f .is .says) count)
         (a-line {x = fields (min (word first 13) 20)} first (f .is .read .count, f .is .read .spells, f .is .blank) (rw (f .rest) at others))
 
-    data-done : Done (s .words ++ body) (l ∷ now)
+    data-done : WholeRecord (s .words ++ body) (l ∷ now)
     data-done =
         let front : List ℕ = needed ∷ (1002 ∷ drop 2 first) in
-        let below = all-drop (λ w. w < 65536) 2 first (words-below l 0 first (f .is .read .spells)) in
+        let below = all-drop (λ w. w < 65536) 2 first (spelled-below l 0 first (f .is .read .spells)) in
         let sized : Below 65536 data-it =
         (total-fits front (f .words), (omega arith, all-append (λ w. w < 65536) (drop 2 first) body below (lines-below others clean))) in
         rw (f .words) (record { ok = record { total = counted front (f .words); kind = dataRecord refl data-ok; sized = sized }; spelled = as-data refl data-spelled })
 
-  by-kind : First l s → Done (s .words ++ body) (l ∷ now)
+  by-kind : FirstRead l s → WholeRecord (s .words ++ body) (l ∷ now)
   by-kind (catalogue-first f) = cards-done 13 2001 2101 (omega arith) (omega arith) refl (omega arith) (λ e. omega arith) f (λ c. catalogue refl c) (λ c. as-catalogue refl c)
   by-kind (header-first f) = cards-done 16 3002 3101 (omega arith) (omega arith) refl (omega arith) (λ e. omega arith) f (λ c. header refl c) (λ c. as-header refl c)
   by-kind (data-first f) = data-done f
 
   -- a good record, spelled by its lines
-  pub done : Done (s .words ++ body) (l ∷ now)
+  pub done : WholeRecord (s .words ++ body) (l ∷ now)
   done = by-kind (o .first)

@@ -29,11 +29,11 @@ use Rattle.line_plan.proofs.Plans.{fieldsIn, length-plan, fieldsIn-plan}
 use Rattle.write_lines.specs.Lines.{linesOf}
 use Rattle.write_lines.specs.Text.{textOf}
 use Rattle.write_lines.specs.Columns.{endsBefore, columnsBefore}
-use Rattle.write_lines.proofs.Sizes.{sized, text-bound, data-count, data-size, data-lines, cards-lines, data-is}
+use Rattle.write_lines.proofs.Sizes.{record-sized, text-bound, data-count, data-size, data-lines, cards-lines, data-is}
 use Rattle.demands.specs.Lines.{LineCount, LineWidth, TextBound, longest, TextReached, SixColumns, WordStands}
 
 pub line-count : LineCount
-line-count r h = sized r h .lines
+line-count r h = record-sized r h .lines
 
 pub text-most : TextBound
 text-most = text-bound
@@ -95,7 +95,7 @@ line-width r h = by (h .kind)
 reached : (r : List ℕ) → RecordOk r → word r 2 ≡ 1002 → word r 13 ≡ 16 → word r 14 ≡ 0 → word r 15 ≡ 1 → word r 16 ≡ 7981 → length (textOf (r ∷ [])) ≡ 55971
 unfolding textOf lineCount
 reached r h kind l j m n =
-    let z = sized r h in
+    let z = record-sized r h in
     let e = ap (λ k. eqb k 1002) kind in
     let d = is-data r h kind in
     let k : length r ≡ 7998 = d .sum ∙ rw (l, j, m, n) refl in
@@ -260,7 +260,7 @@ module _ (r : List ℕ) (h : RecordOk r) (kind : word r 2 ≡ 1002) (j v : ℕ) 
         length-plan (countsOf r),
         data-count r e,
         data-size r e,
-        sized r h .bytes,
+        record-sized r h .bytes,
       )
 
 text-append : (rs ss : List (List ℕ)) → textOf (rs ++ ss) ≡ textOf rs ++ textOf ss

@@ -20,7 +20,7 @@ use Rattle.read_text.specs.Block.{readText}
 use Rattle.read_text.specs.Spelled.{Readable, Blanks, LinesSpell, no-lines, a-line, Spelled, at-end, blank-line, a-record}
 use Rattle.units.proofs.Told.{Known}
 use Rattle.read_text.specs.Cases.{TextRow}
-use Rattle.read_text.proofs.Opened.{wordsToCome, Opens, skipped, opens, Given, Taken, line-known}
+use Rattle.read_text.proofs.Opened.{wordsToCome, Opens, skipped, opens, Given, Taken, line-known, RoomToCome}
 use Rattle.read_text.proofs.Known.{lines-most, room-on, words-room}
 use Rattle.demands.specs.Texts.{IsText}
 use Rattle.demands.proofs.Gathered.{done}
@@ -48,14 +48,14 @@ record Behind (rest : List Shape) (ls : List Line) (ws : List ℕ) : Type 0 wher
   whole : Whole later others
 
 -- between records none of these are to come
-between : (ls : List Line) (ws : List ℕ) → Whole ls ws → Behind [] ls ws
-between ls ws w = record { now = []; later = ls; body = []; others = ws; lines = refl; words = refl; spelled = no-lines; readable = tt; whole = w }
+nothing-to-come : (ls : List Line) (ws : List ℕ) → Whole ls ws → Behind [] ls ws
+nothing-to-come ls ws w = record { now = []; later = ls; body = []; others = ws; lines = refl; words = refl; spelled = no-lines; readable = tt; whole = w }
 
 none-left : {ls : List Line} {ws : List ℕ} → LinesSpell [] ls ws → (ls ≡ []) × (ws ≡ [])
 none-left no-lines = (refl, refl)
 
-settled : (ls : List Line) (ws : List ℕ) → Behind [] ls ws → Whole ls ws
-settled ls ws b =
+none-left-whole : (ls : List Line) (ws : List ℕ) → Behind [] ls ws → Whole ls ws
+none-left-whole ls ws b =
     let n = none-left (b .spelled) in
     let e : ls ≡ b .later = b .lines ∙ ap (λ t. t ++ b .later) (n .0) in
     let f : ws ≡ b .others = b .words ∙ ap (λ t. t ++ b .others) (n .1) in
@@ -96,8 +96,8 @@ module _ (held : ℕ) (l : Line) (s : Read) (ls : List Line) (ws : List ℕ) (r 
           readable = (r, b .readable);
           whole = b .whole;
         }
-    line-before [] (skipped blank none e) = rw none (between (l ∷ ls) ws (blank-before blank (settled ls ws (rw e at b))))
-    line-before [] (opens o) = between (l ∷ ls) (s .words ++ ws) (record-before o)
+    line-before [] (skipped blank none e) = rw none (nothing-to-come (l ∷ ls) ws (blank-before blank (none-left-whole ls ws (rw e at b))))
+    line-before [] (opens o) = nothing-to-come (l ∷ ls) (s .words ++ ws) (record-before o)
 
 -- at the end of the text
 no-more : (num held : ℕ) (rest : List Shape) (ws : List ℕ) → atEnd num held rest ≡ passed ws → Behind rest [] ws
@@ -106,10 +106,10 @@ no-more num held (x ∷ rest) ws e = absurd (never-passed e)
 no-more num held [] ws e =
     let p = else-passed (eqb held 0) (answer 21 0 0 0) (passed []) ws e .1 in
     let none : ws ≡ [] = cc in
-    between [] ws (record { records = []; words = none; spelled = at-end; readable = tt; each = tt })
+    nothing-to-come [] ws (record { records = []; words = none; spelled = at-end; readable = tt; each = tt })
 
 -- what the lines give from here is what they spell
-each-line : (num held : ℕ) (rest : List Shape) (ls : List Line) (ws : List ℕ) → num + length ls < 2 ^ 24 → held + wordsToCome rest ≤ 7998 → readLines num held rest ls ≡ passed ws → Behind rest ls ws
+each-line : (num held : ℕ) (rest : List Shape) (ls : List Line) (ws : List ℕ) → num + length ls < 2 ^ 24 → RoomToCome held rest → readLines num held rest ls ≡ passed ws → Behind rest ls ws
 unfolding readLines
 each-line num held rest [] ws hn h e = no-more num held rest ws e
 each-line num held rest (l ∷ ls) ws hn h e =
@@ -121,7 +121,7 @@ each-line num held rest (l ∷ ls) ws hn h e =
     last s g (refused r) ih e = absurd (never-passed e)
 
     by : (v : Verdict Read) → Known TextRow (Taken held rest l) v
-        → ((s : Read) → (vs : List ℕ) → suc num + length ls < 2 ^ 24 → held + length (s .words) + wordsToCome (s .rest) ≤ 7998 → readLines (suc num) (held + length (s .words)) (s .rest) ls ≡ passed vs → Behind (s .rest) ls vs)
+        → ((s : Read) → (vs : List ℕ) → suc num + length ls < 2 ^ 24 → RoomToCome (held + length (s .words)) (s .rest) → readLines (suc num) (held + length (s .words)) (s .rest) ls ≡ passed vs → Behind (s .rest) ls vs)
         → onward v (λ s. onward (readLines (suc num) (held + length (s .words)) (s .rest) ls) (λ vs. passed (s .words ++ vs))) ≡ passed ws → Behind rest (l ∷ ls) ws
     by (passed s) g ih e = last s g (readLines (suc num) (held + length (s .words)) (s .rest) ls) (λ vs. ih s vs (omega arith) (room-on held rest l s h (g .given))) e
     by (refused r) g ih e = absurd (never-passed e)
@@ -134,7 +134,7 @@ unfolding readText wordsToCome
 its-text t ws e =
     let p = else-passed (ltb 65536 (length t)) (answer 30 0 0 0) _ ws e in
     let size = ltb-false 65536 (length t) (p .0) in
-    let w = settled (linesIn t) ws (each-line 1 0 [] (linesIn t) ws (omega (arith, lines-most t)) (omega arith) (p .1)) in
+    let w = none-left-whole (linesIn t) ws (each-line 1 0 [] (linesIn t) ws (omega (arith, lines-most t)) (omega arith) (p .1)) in
     let r = words-room t ws e in
     let l = ap length (w .words) in (
       w .records,

@@ -15,7 +15,7 @@ use Rattle.demands.specs.Demand3.{putIn, Elsewhere}
 use Rattle.demands.proofs.Values.{Alike, steady-size, amended-good, amended-alike, amended-found, alike-count, alike-named, other-found}
 
 -- an entry names a value of these records, its old value stands there, and its new value is a word
-pub record Fits (rs : List (List ℕ)) (e : Entry) : Type 0 where
+pub record EntryFits (rs : List (List ℕ)) (e : Entry) : Type 0 where
   pub named : Named rs e
   pub old : found rs e ≡ oldValue e
   pub new : newValue e < 65536
@@ -23,7 +23,7 @@ pub record Fits (rs : List (List ℕ)) (e : Entry) : Type 0 where
 -- each fits the records that those before it leave
 abbrev pub Stack : List (List ℕ) → List Entry → Type 0
 Stack rs [] = Unit {0}
-Stack rs (e ∷ es) = Fits rs e × Stack (withValue rs e (newValue e)) es
+Stack rs (e ∷ es) = EntryFits rs e × Stack (withValue rs e (newValue e)) es
 
 -- ---- two stacks, one on the other
 
@@ -41,7 +41,7 @@ stack-parts rs (e ∷ es) fs s = let p = stack-parts (withValue rs e (newValue e
 
 -- ---- what they leave
 
-module _ (rs : List (List ℕ)) (e : Entry) (good : All RecordOk rs) (f : Fits rs e) where
+module _ (rs : List (List ℕ)) (e : Entry) (good : All RecordOk rs) (f : EntryFits rs e) where
   pub put-good : All RecordOk (withValue rs e (newValue e))
   put-good = amended-good rs e good (f .named) (newValue e) (f .new)
 

@@ -9,7 +9,7 @@ use lib.Dec.{eqb}
 use lib.ListN.{length, getD, take, drop, replicate, drop-of-length-le, length-drop, take-append-drop}
 use lib.Seq.{drop-nil, drop-cons, drop-append-add, take-at, take-all, take-take, take-length, length-take-le, getD-take, getD-drop}
 use Rattle.units.specs.Answers.{passed}
-use Rattle.words.specs.Words.{word, bytesOf, joined, All, Below}
+use Rattle.words.specs.Words.{word, bytesOf, joined, All, Below, mostRecordWords}
 use Rattle.words.proofs.Lists.{all-take, all-drop, all-append, all-getD, all-map}
 use Rattle.words.proofs.Laws.{length-bytesOf, words-bytes, getD-below}
 use Rattle.record.specs.Counts.{countsOf}
@@ -28,7 +28,7 @@ use Rattle.write_parts.proofs.Turns.{length-fieldsOf}
 use Rattle.line_plan.proofs.Plans.{fieldsIn, fieldsIn-plan}
 use Rattle.write_lines.specs.Lines.{linesOf}
 use Rattle.write_lines.specs.Text.{textOf}
-use Rattle.write_lines.proofs.Sizes.{sized, is-cards, cards-lines, data-lines, text-most}
+use Rattle.write_lines.proofs.Sizes.{record-sized, is-cards, cards-lines, data-lines, text-size-most}
 use Rattle.read_cut.specs.Lines.{onto, linesIn, endLength}
 use Rattle.read_columns.proofs.Columns.{columns-full}
 use Rattle.read_first_line.specs.FirstLine.{card, fields}
@@ -162,7 +162,7 @@ module _ (r : List ℕ) (h : RecordOk r) where
   shown-below : Below 65536 (shownWords r)
   shown-below =
       let total = getD-below 65536 r 0 (omega arith) (h .sized) in
-      (omega (arith, sized r h .count-most, h .total), (kind-below (word r 2), all-drop (λ w. w < 65536) 2 r (h .sized)))
+      (omega (arith, record-sized r h .count-most, h .total), (kind-below (word r 2), all-drop (λ w. w < 65536) 2 r (h .sized)))
 
   shown-same : (k : ℕ) → 2 ≤ k → getD (shownWords r) k 0 ≡ getD r k 0
   shown-same zero low = absurd (omega arith)
@@ -231,7 +231,7 @@ standard-lines (r ∷ rs) h =
       spelled = rw cut (a-record (lines-spelled r (h .0)) (s .spelled));
     }
 
-pub text-back : (rs : List (List ℕ)) → All RecordOk rs → 1 ≤ length rs → length (joined rs) ≤ 7998 → readText (textOf rs) ≡ passed (joined rs)
+pub text-back : (rs : List (List ℕ)) → All RecordOk rs → 1 ≤ length rs → length (joined rs) ≤ mostRecordWords → readText (textOf rs) ≡ passed (joined rs)
 text-back rs h some fits =
     let s = standard-lines rs h in
-    text-read (textOf rs) rs (record { size = omega (arith, text-most rs h some); lines = s .lines; spelled = s .spelled; each = h; some = some; most = fits })
+    text-read (textOf rs) rs (record { size = omega (arith, text-size-most rs h some); lines = s .lines; spelled = s .spelled; each = h; some = some; most = fits })

@@ -8,7 +8,7 @@ use borrow.Author.Tests.{le-ltb, ne-eqb}
 use lib.ListN.{length, take, drop, replicate, length-append, take-append-drop}
 use lib.Seq.{take-at, drop-at}
 use Rattle.units.specs.Answers.{passed}
-use Rattle.words.specs.Words.{word, joined, All}
+use Rattle.words.specs.Words.{word, joined, All, mostRecordWords}
 use Rattle.words.proofs.Lists.{all-parts}
 use Rattle.record.specs.Counts.{countsOf}
 use Rattle.record.specs.Lines.{lineCount}
@@ -51,7 +51,7 @@ module _ (num held a b : ℕ) (ws : List ℕ) (ls : List Line) where
   abbrev ReadBack : List Line → Type 0
   ReadBack ms = readLines num held [] (ms ++ ls) ≡ ahead it (readLines (num + length ms) (held + length it) [] ls)
 
-  module _ (h : RecordOk it) (fits : held + length it ≤ 7998) where
+  module _ (h : RecordOk it) (fits : held + length it ≤ mostRecordWords) where
     -- its first line gives some of its words, and the others are still to come
     goes-on : (p : ℕ) (xs : List Shape) (l : Line) (ms : List Line) → All Readable (l ∷ ms) → inState num held [] l ≡ gives (take p it) xs → LinesSpell xs ms (drop p it) → ReadBack (l ∷ ms)
     goes-on p xs l ms r e on =
@@ -86,7 +86,7 @@ module _ (num held a b : ℕ) (ws : List ℕ) (ls : List Line) where
     record-read ms r (as-header {l} {ls = ms'} e s) = goes-on 40 (replicate (lineCount it - 1) card) l ms' r (header-given num held a b ws h fits (λ f. omega arith) l ms' e s) (s .cards)
     record-read ms r (as-data e s) = data-read ms r e (min (word it 13) 20 - 2) (omega (arith, is-data it h e .counts .lprol .least-is)) s
 
-record-back : (r : List ℕ) (num held : ℕ) (ms ls : List Line) → RecordOk r → held + length r ≤ 7998 → All Readable ms → RecordSpelled r ms
+record-back : (r : List ℕ) (num held : ℕ) (ms ls : List Line) → RecordOk r → held + length r ≤ mostRecordWords → All Readable ms → RecordSpelled r ms
     → readLines num held [] (ms ++ ls) ≡ ahead r (readLines (num + length ms) (held + length r) [] ls)
 record-back [] num held ms ls h fits r s = absurd (omega (arith, ok-long [] h))
 record-back (a ∷ []) num held ms ls h fits r s = absurd (omega (arith, ok-long (a ∷ []) h))
@@ -95,7 +95,7 @@ record-back (a ∷ (b ∷ ws)) num held ms ls h fits r s = record-read num held 
 -- ---- a text
 
 -- some records, or records behind words that were read already
-spelled-back : {ls : List Line} {rs : List (List ℕ)} (num held : ℕ) → Spelled ls rs → All Readable ls → All RecordOk rs → held + length (joined rs) ≤ 7998 → 1 ≤ held + length rs
+spelled-back : {ls : List Line} {rs : List (List ℕ)} (num held : ℕ) → Spelled ls rs → All Readable ls → All RecordOk rs → held + length (joined rs) ≤ mostRecordWords → 1 ≤ held + length rs
     → readLines num held [] ls ≡ passed (joined rs)
 unfolding readLines atEnd joined
 spelled-back num held at-end r h fits some = simp (ne-eqb held 0 (λ e. omega arith))

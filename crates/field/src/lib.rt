@@ -148,7 +148,7 @@ fn with_digit(minus: bool, m: u32, b: u8) -> Scan
 }
 
 // One column more.
-fn step(s: Scan, b: u8) -> Scan
+fn after_column(s: Scan, b: u8) -> Scan
     requires { ⌜ soFar s < 100000 ⌝ }
     ensures { λ r. ⌜ r ≡ afterColumn s b ⌝ }
 {
@@ -214,7 +214,7 @@ fn scan_field(line: &[u8], at: usize) -> Number
     let mut s = Scan::Blank;
     let mut i: usize = 0;
     while i < 6 {
-        s = step(s, line[at + i]);
+        s = after_column(s, line[at + i]);
         i += 1;
     }
     finish(s)

@@ -21,14 +21,14 @@ place-is (c ∷ codes) code (suc at) h e before =
     (ap suc (place-is codes code at (omega arith) (λ l. e (omega arith)) (λ k l. before (suc k) (omega arith))))
 
 -- the code stands nowhere in the list but from low up to high
-pub record Between (codes : List ℕ) (code low high : ℕ) : Type 0 where
+pub record Narrowed (codes : List ℕ) (code low high : ℕ) : Type 0 where
   pub within : high ≤ length codes
   pub only : (k : ℕ) → k < length codes → getD codes k 0 ≡ code → (low ≤ k) × (k < high)
 
-pub anywhere : (codes : List ℕ) (code : ℕ) → Between codes code 0 (length codes)
+pub anywhere : (codes : List ℕ) (code : ℕ) → Narrowed codes code 0 (length codes)
 anywhere codes code = omega arith
 
-module _ (codes : List ℕ) (code low high : ℕ) (b : Between codes code low high) where
+module _ (codes : List ℕ) (code low high : ℕ) (b : Narrowed codes code low high) where
   pub nowhere : high ≤ low → length codes ≡ placeIn codes code
   nowhere l = place-is codes code (length codes) (omega arith) (λ h. absurd (omega arith)) (λ k h e. omega (arith, b .only k h e))
 
@@ -43,10 +43,10 @@ module _ (codes : List ℕ) (code low high : ℕ) (b : Between codes code low hi
     pub found : getD codes middle 0 ≡ code → middle ≡ placeIn codes code
     found e = place-is codes code middle (omega (arith, inside)) (λ _. e) (λ k l same. omega (arith, rising codes up k middle l inside))
 
-    pub too-low : getD codes middle 0 < code → Between codes code (middle + 1) high
+    pub too-low : getD codes middle 0 < code → Narrowed codes code (middle + 1) high
     too-low less = record { within = b .within; only = λ k l e. omega (arith, b .only k l e, later codes up middle k inside (omega arith)) }
 
-    pub too-high : (getD codes middle 0 ≡ code → ⊥) → code ≤ getD codes middle 0 → Between codes code low middle
+    pub too-high : (getD codes middle 0 ≡ code → ⊥) → code ≤ getD codes middle 0 → Narrowed codes code low middle
     too-high other more = record { within = omega (arith, inside); only = λ k l e. omega (arith, b .only k l e, later codes up k middle l (omega arith)) }
 
 module _ {A : Type 0} where

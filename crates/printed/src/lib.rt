@@ -55,7 +55,7 @@ fn write_row(number: u32, before: Words, whole: &[u8], out: &mut [u8], at: Bytes
 }
 
 // Puts the lines of an accepted block's records.
-fn write_rows(block: &[u8], out: &mut [u8]) -> Bytes
+fn write_listing(block: &[u8], out: &mut [u8]) -> Bytes
     requires { ⌜ Accepted (now block) × Room (now out) 0 (rowsOf 1 1 (recordsOf (now block))) ⌝ }
     ensures { λ r. ⌜ Put (now (out .entry)) 0 (rowsOf 1 1 (recordsOf (now (block .entry)))) (now (out .exit)) (r .0) ⌝ }
 {
@@ -80,7 +80,7 @@ pub fn print_listing(block: &[u8], out: &mut [u8]) -> Bytes
     ensures { λ r. ⌜ Printed (now (out .entry)) (listingOf (now (block .entry))) (now (out .exit)) (r .0) ⌝ }
 {
     match block::judge(block) {
-        Judged::Records(_) => write_rows(block, out),
+        Judged::Records(_) => write_listing(block, out),
         Judged::Refused(r) => report::write_refusal(block::refusal_numbers(r), out, Bytes(0)),
     }
 }

@@ -3,8 +3,8 @@ use Rattle.units.specs.declared.Answer.{Answer}
 use Rattle.units.specs.Answers.{answer, Verdict, passed, refused}
 use Rattle.read_columns.specs.declared.Flaw.{Flaw}
 use Rattle.read_columns.specs.declared.Flaw.the-variants.{Byte, NoRecord, Field, Kind, Count, Ends, NotBlank, Range, Much, Long}
-use Rattle.read_columns.specs.declared.Checked.{Checked}
-use Rattle.read_columns.specs.declared.Checked.the-variants.{Good, Flawed}
+use Rattle.read_columns.specs.declared.Tested.{Tested}
+use Rattle.read_columns.specs.declared.Tested.the-variants.{Good, Flawed}
 
 -- rows 20 to 28 and 30: n, the line's number, the column
 abbrev pub flawOf : Flaw → Answer
@@ -20,6 +20,6 @@ flawOf (Much line) = answer 28 (line .0) 1 0
 flawOf Long = answer 30 0 0 0
 
 -- columns that hold what they must, and a value with them; or the refusal
-abbrev pub checkedOf : {A : Type 0} → A → Checked → Verdict A
-checkedOf x Good = passed x
-checkedOf x (Flawed f) = refused (flawOf f)
+abbrev pub testedOf : {A : Type 0} → A → Tested → Verdict A
+testedOf x Good = passed x
+testedOf x (Flawed f) = refused (flawOf f)

@@ -54,9 +54,9 @@ unfoldable pub number : ℕ → Line → ℕ → Verdict ℕ
 number num l k = wordIn num k (readField (columns 6 l (columnsOfFields k)))
 
 -- "fields by 22": the numbers in m fields from there on
-unfoldable pub numbers : ℕ → Line → ℕ → ℕ → Verdict (List ℕ)
-numbers num l k zero = passed []
-numbers num l k (suc m) = onward (number num l k) (λ w. onward (numbers num l (suc k) m) (λ ws. passed (w ∷ ws)))
+unfoldable pub fieldNumbers : ℕ → Line → ℕ → ℕ → Verdict (List ℕ)
+fieldNumbers num l k zero = passed []
+fieldNumbers num l k (suc m) = onward (number num l k) (λ w. onward (fieldNumbers num l (suc k) m) (λ ws. passed (w ∷ ws)))
 
 -- that field is blank: the blank columns behind those k fields reach its last one, or the line's end
 abbrev pub blankField : Line → ℕ → Bool
@@ -69,6 +69,6 @@ zeroField num l k =
     else onward (number num l k) (λ w. if eqb w 0 then passed tt else refused (answer 26 num (columnOf k) 0))
 
 -- m such fields from there on
-unfoldable pub zeros : ℕ → Line → ℕ → ℕ → Verdict (Unit {0})
-zeros num l k zero = passed tt
-zeros num l k (suc m) = onward (zeroField num l k) (λ _. zeros num l (suc k) m)
+unfoldable pub zeroFields : ℕ → Line → ℕ → ℕ → Verdict (Unit {0})
+zeroFields num l k zero = passed tt
+zeroFields num l k (suc m) = onward (zeroField num l k) (λ _. zeroFields num l (suc k) m)

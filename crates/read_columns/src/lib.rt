@@ -10,8 +10,8 @@ ghost use Prim.Native.Nat.{_+_, _^_, _≤_, _<_, min};
 ghost use lib.ListN.{length, take};
 ghost use Rattle.units.specs.Answers.{answer, passed, onward, Packs};
 ghost use Rattle.words.specs.Scans.{plainIn};
-ghost use Rattle.read_columns.specs.Columns.{plainTo, blankTo, blankAfter, blankLine, columnOf, numbers, blankField, zeroField, zeros};
-ghost use Rattle.read_columns.specs.Cases.{flawOf, checkedOf};
+ghost use Rattle.read_columns.specs.Columns.{plainTo, blankTo, blankAfter, blankLine, columnOf, fieldNumbers, blankField, zeroField, zeroFields};
+ghost use Rattle.read_columns.specs.Cases.{flawOf, testedOf};
 
 // Why a text is refused: the line and, where it is not always the same, the column, both counted from 1.
 pub enum Flaw {
@@ -28,7 +28,7 @@ pub enum Flaw {
 }
 
 // What is found of some columns.
-pub enum Checked {
+pub enum Tested {
     Good,
     Flawed(Flaw),
 }
@@ -63,15 +63,15 @@ fn blank_to(line: &[u8], from: Bytes) -> usize
 }
 
 // The columns after the first `from` must be blank.
-pub fn blank_after(line: &[u8], num: Lines, from: Bytes) -> Checked
-    ensures { λ r. ⌜ checkedOf tt r ≡ blankAfter (num .0) (now (line .entry)) (from .0) ⌝ }
+pub fn blank_after(line: &[u8], num: Lines, from: Bytes) -> Tested
+    ensures { λ r. ⌜ testedOf tt r ≡ blankAfter (num .0) (now (line .entry)) (from .0) ⌝ }
 {
     let right = blank_to(line, from);
     if right < line.len() {
         let column = right + 1;
-        return Checked::Flawed(Flaw::NotBlank(num, Bytes(column)));
+        return Tested::Flawed(Flaw::NotBlank(num, Bytes(column)));
     }
-    Checked::Good
+    Tested::Good
 }
 
 // A blank line.
@@ -92,20 +92,20 @@ pub fn column_of(k: Words) -> Bytes
 }
 
 // Reads `count` number fields, with `from` fields before them, into the same places of the row.
-pub fn read_numbers(line: &[u8], num: Lines, from: Words, count: Words, row: &mut [u16]) -> Checked
+pub fn read_numbers(line: &[u8], num: Lines, from: Words, count: Words, row: &mut [u16]) -> Tested
     requires { ⌜ (from .0 + count .0 ≤ 20) × (length (now row) ≡ 20) ⌝ }
-    ensures { λ r. ⌜ checkedOf (take (from .0 + count .0) (now (row .exit))) r ≡ onward (numbers (num .0) (now (line .entry)) (from .0) (count .0)) (λ ws. passed (take (from .0) (now (row .entry)) ++ ws)) ⌝ }
+    ensures { λ r. ⌜ testedOf (take (from .0 + count .0) (now (row .exit))) r ≡ onward (fieldNumbers (num .0) (now (line .entry)) (from .0) (count .0)) (λ ws. passed (take (from .0) (now (row .entry)) ++ ws)) ⌝ }
 {
     let end = from.0 + count.0;
     let mut k = from.0;
     while k < end {
         match field::read_field(line, units::columns_of_fields(Words(k))) {
-            Number::Bad => return Checked::Flawed(Flaw::Field(num, column_of(Words(k)))),
+            Number::Bad => return Tested::Flawed(Flaw::Field(num, column_of(Words(k)))),
             Number::Word(w) => row[k] = w,
         }
         k += 1;
     }
-    Checked::Good
+    Tested::Good
 }
 
 // The field with k fields before it is blank.
@@ -119,38 +119,38 @@ fn blank_field(line: &[u8], k: Words) -> bool
 }
 
 // A field that must be 0, or blank, which means 0.
-fn zero_field(line: &[u8], num: Lines, k: Words) -> Checked
+fn zero_field(line: &[u8], num: Lines, k: Words) -> Tested
     requires { ⌜ k .0 ≤ 20 ⌝ }
-    ensures { λ r. ⌜ checkedOf tt r ≡ zeroField (num .0) (now (line .entry)) (k .0) ⌝ }
+    ensures { λ r. ⌜ testedOf tt r ≡ zeroField (num .0) (now (line .entry)) (k .0) ⌝ }
 {
     if blank_field(line, k) {
-        return Checked::Good;
+        return Tested::Good;
     }
     match field::read_field(line, units::columns_of_fields(k)) {
-        Number::Bad => Checked::Flawed(Flaw::Field(num, column_of(k))),
+        Number::Bad => Tested::Flawed(Flaw::Field(num, column_of(k))),
         Number::Word(w) => {
             if w == 0 {
-                return Checked::Good;
+                return Tested::Good;
             }
-            Checked::Flawed(Flaw::NotBlank(num, column_of(k)))
+            Tested::Flawed(Flaw::NotBlank(num, column_of(k)))
         }
     }
 }
 
 // `count` such fields, with `from` fields before them.
-pub fn zero_fields(line: &[u8], num: Lines, from: Words, count: Words) -> Checked
+pub fn zero_fields(line: &[u8], num: Lines, from: Words, count: Words) -> Tested
     requires { ⌜ from .0 + count .0 ≤ 20 ⌝ }
-    ensures { λ r. ⌜ checkedOf tt r ≡ zeros (num .0) (now (line .entry)) (from .0) (count .0) ⌝ }
+    ensures { λ r. ⌜ testedOf tt r ≡ zeroFields (num .0) (now (line .entry)) (from .0) (count .0) ⌝ }
 {
     let end = from.0 + count.0;
     let mut k = from.0;
     while k < end {
         match zero_field(line, num, Words(k)) {
-            Checked::Flawed(f) => return Checked::Flawed(f),
-            Checked::Good => k += 1,
+            Tested::Flawed(f) => return Tested::Flawed(f),
+            Tested::Good => k += 1,
         }
     }
-    Checked::Good
+    Tested::Good
 }
 
 // The four numbers of a refusal.

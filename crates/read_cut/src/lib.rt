@@ -22,7 +22,7 @@ fn is_plain(b: u8) -> bool
 }
 
 // The place before which the bytes from place `at` on are plain.
-fn plain_to(text: &[u8], at: usize) -> usize
+fn plain_end(text: &[u8], at: usize) -> usize
     requires { ⌜ at ≤ length (now text) ⌝ }
     ensures { λ r. ⌜ r ≡ at + plainIn (drop at (now (text .entry))) ⌝ }
 {
@@ -49,7 +49,7 @@ fn end_length(text: &[u8], i: usize) -> usize
     ensures { λ r. ⌜ (r ≡ endLength (drop i (now (text .entry)))) × (i + r ≤ length (now (text .entry))) ⌝ }
 {
     let after = i + 1;
-    if is_lf(text, i) {
+    if text[i] == b'\n' {
         return 1;
     }
     if text[i] != b'\r' {
@@ -67,7 +67,7 @@ pub fn next_line(text: &[u8], at: Bytes) -> Cut
     ensures { λ r. ⌜ CutAt (now (text .entry)) (at .0) r ⌝ }
 {
     let first = at.0;
-    let mut i = plain_to(text, first);
+    let mut i = plain_end(text, first);
     let plain = i - first;
     while i < text.len() {
         let size = end_length(text, i);

@@ -15,7 +15,7 @@ use Rattle.units.proofs.Choosing.{both-ways}
 use Rattle.words.specs.Words.{word}
 use Rattle.record.specs.Counts.{countsOf, inRange}
 use Rattle.record.proofs.FourCounts.{range-ok}
-use Rattle.read_columns.specs.Columns.{columnOf, numbers, zeros, blankAfter}
+use Rattle.read_columns.specs.Columns.{columnOf, fieldNumbers, zeroFields, blankAfter}
 use Rattle.read_first_line.specs.FirstLine.{Head, cards, counts, countsIn, countFields, catalogueFields, headerFields, prologueFields, dataFields, kindFields, firstFields}
 
 -- LPROL, word 13, is at least 16: so it is there
@@ -42,64 +42,64 @@ in-range num r x e =
     let same : r ≡ x = cc in
     rw (sym same) (range-ok (countsOf r) (ltb-false _ _ (a .0)) .lprol .least-is)
 
-pub counted : (num : ℕ) (l first x : List ℕ) → passed x ≡ countFields num l first → LprolLeast x
+pub lprol-counted : (num : ℕ) (l first x : List ℕ) → passed x ≡ countFields num l first → LprolLeast x
 unfolding countFields
-counted num l first x e = by (numbers num l 12 4) e
+lprol-counted num l first x e = by (fieldNumbers num l 12 4) e
   where
     by : (v : Verdict (List ℕ)) → passed x ≡ onward v (λ more. countsIn num (first ++ more)) → LprolLeast x
     by (passed ws) g = in-range num (first ++ ws) x (sym g)
     by (refused r) g = absurd (never-passed (sym g))
 
 -- a verdict that gives a Data record gives LPROL in range
-abbrev Least : Verdict Head → Type 0
-Least v = (ws : List ℕ) → passed (counts ws) ≡ v → LprolLeast ws
+abbrev GivesLprol : Verdict Head → Type 0
+GivesLprol v = (ws : List ℕ) → passed (counts ws) ≡ v → LprolLeast ws
 
 module _ (num : ℕ) (l : List ℕ) where
-  prologue-least : (r : List ℕ) → LprolLeast r → Least (prologueFields num l r)
+  prologue-least : (r : List ℕ) → LprolLeast r → GivesLprol (prologueFields num l r)
   unfolding prologueFields
-  prologue-least r h ws e = by (numbers num l 16 (min (word r 13) 20 - 16)) (blankAfter num l (6 * min (word r 13) 20)) e
+  prologue-least r h ws e = by (fieldNumbers num l 16 (min (word r 13) 20 - 16)) (blankAfter num l (6 * min (word r 13) 20)) e
     where
       by : (v : Verdict (List ℕ)) (u : Verdict (Unit {0})) → passed (counts ws) ≡ onward v (λ more. onward u (λ _. passed (counts (r ++ more)))) → LprolLeast ws
       by (passed more) (passed y) g = let same : ws ≡ r ++ more = cc in rw (same, List·getD-append r more 0 12 (long-enough r h)) h
       by (passed more) (refused a) g = absurd (never-passed (sym g))
       by (refused a) u g = absurd (never-passed (sym g))
 
-  data-least : (first : List ℕ) → Least (dataFields num l first)
+  data-least : (first : List ℕ) → GivesLprol (dataFields num l first)
   unfolding dataFields
   data-least first ws e = by (countFields num l first) refl e
     where
       by : (v : Verdict (List ℕ)) → countFields num l first ≡ v → passed (counts ws) ≡ onward v (λ r. prologueFields num l r) → LprolLeast ws
-      by (passed r) f g = prologue-least r (counted num l first r (sym f)) ws g
+      by (passed r) f g = prologue-least r (lprol-counted num l first r (sym f)) ws g
       by (refused a) f g = absurd (never-passed (sym g))
 
   -- the others give none
-  no-counts : {A : Type 0} (kind : ℕ) (x : A → List ℕ) (v : Verdict A) → Least (onward v (λ y. passed (cards kind (x y))))
+  no-counts : {A : Type 0} (kind : ℕ) (x : A → List ℕ) (v : Verdict A) → GivesLprol (onward v (λ y. passed (cards kind (x y))))
   no-counts kind x (passed y) ws e = let z : _≡_ {A = ℕ} 0 1 = cc in absurd (omega arith)
   no-counts kind x (refused a) ws e = absurd (never-passed (sym e))
 
-  catalogue-least : (first : List ℕ) → Least (catalogueFields num l first)
+  catalogue-least : (first : List ℕ) → GivesLprol (catalogueFields num l first)
   unfolding catalogueFields
-  catalogue-least first = no-counts 2001 (λ _. first) (zeros num l 12 8)
+  catalogue-least first = no-counts 2001 (λ _. first) (zeroFields num l 12 8)
 
-  header-least : (first : List ℕ) → Least (headerFields num l first)
+  header-least : (first : List ℕ) → GivesLprol (headerFields num l first)
   unfolding headerFields
-  header-least first = by (numbers num l 12 3)
+  header-least first = by (fieldNumbers num l 12 3)
     where
-      by : (v : Verdict (List ℕ)) → Least (onward v (λ more. onward (zeros num l 15 5) (λ _. passed (cards 3002 (first ++ more)))))
-      by (passed more) = no-counts 3002 (λ _. first ++ more) (zeros num l 15 5)
+      by : (v : Verdict (List ℕ)) → GivesLprol (onward v (λ more. onward (zeroFields num l 15 5) (λ _. passed (cards 3002 (first ++ more)))))
+      by (passed more) = no-counts 3002 (λ _. first ++ more) (zeroFields num l 15 5)
       by (refused a) = λ ws e. absurd (never-passed (sym e))
 
-  kind-least : (first : List ℕ) → Least (kindFields num l first)
+  kind-least : (first : List ℕ) → GivesLprol (kindFields num l first)
   unfolding kindFields
   kind-least first =
-      both-ways Least (eqb (word first 2) 2101) (catalogueFields num l first) _ (catalogue-least first)
-      (both-ways Least (eqb (word first 2) 3101) (headerFields num l first) _ (header-least first)
-      (both-ways Least (eqb (word first 2) 1101) (dataFields num l first) (refused (answer 23 num 7 0)) (data-least first) (λ ws e. absurd (never-passed (sym e)))))
+      both-ways GivesLprol (eqb (word first 2) 2101) (catalogueFields num l first) _ (catalogue-least first)
+      (both-ways GivesLprol (eqb (word first 2) 3101) (headerFields num l first) _ (header-least first)
+      (both-ways GivesLprol (eqb (word first 2) 1101) (dataFields num l first) (refused (answer 23 num 7 0)) (data-least first) (λ ws e. absurd (never-passed (sym e)))))
 
-  pub first-least : Least (firstFields num l)
+  pub first-least : GivesLprol (firstFields num l)
   unfolding firstFields
-  first-least = by (numbers num l 0 12)
+  first-least = by (fieldNumbers num l 0 12)
     where
-      by : (v : Verdict (List ℕ)) → Least (onward v (λ first. kindFields num l first))
+      by : (v : Verdict (List ℕ)) → GivesLprol (onward v (λ first. kindFields num l first))
       by (passed first) = kind-least first
       by (refused a) = λ ws e. absurd (never-passed (sym e))

@@ -12,13 +12,13 @@ use Rattle.units.specs.Choice.{if_then_else_}
 use Rattle.units.specs.Answers.{answer, Verdict, passed, refused, onward}
 use Rattle.units.proofs.Verdicts.{never-passed, else-passed, or-off}
 use Rattle.record.specs.declared.Counts.{Counts}
-use Rattle.words.specs.Words.{bytesOf}
+use Rattle.words.specs.Words.{bytesOf, mostRecordWords}
 use Rattle.words.proofs.Laws.{bytes-append, length-bytesOf}
 use Rattle.words.proofs.Writing.{sets-append}
 use Rattle.record.specs.Counts.{countsOf, wordsNeeded, inRange}
 use Rattle.record.proofs.FourCounts.{counts-first, counts-take}
 use Rattle.line_plan.specs.Plan.{plan}
-use Rattle.read_columns.specs.Columns.{columnOf, numbers, blankAfter}
+use Rattle.read_columns.specs.Columns.{columnOf, fieldNumbers, blankAfter}
 use Rattle.read_first_line.specs.FirstLine.{card, fields, gives, Head, counts, countsIn, catalogueFields, headerFields, prologueFields, dataFields, kindFields, cardsRoom, dataRoom, cardsGiven, dataGiven}
 use Rattle.read_first_line.specs.State.{put}
 
@@ -56,9 +56,9 @@ module _ (row : List ℕ) (used : ℕ) (h : used ≤ length row) where
   data-is low = ap (λ c. gives (wordsNeeded c ∷ (1002 ∷ slice 2 used row)) (map fields (drop 1 (plan c)))) (counts-take used row low)
 
 -- where there is room for a Data record, it is small
-pub room-most : (num held lines : ℕ) (c : Counts) → passed tt ≡ dataRoom num held lines c → held + wordsNeeded c ≤ 7998
+pub room-most : (num held lines : ℕ) (c : Counts) → passed tt ≡ dataRoom num held lines c → held + wordsNeeded c ≤ mostRecordWords
 unfolding dataRoom
-room-most num held lines c e = ltb-false 7998 (held + wordsNeeded c) (else-passed (ltb 7998 (held + wordsNeeded c)) (answer 28 num 1 0) _ tt (sym e) .0)
+room-most num held lines c e = ltb-false mostRecordWords (held + wordsNeeded c) (else-passed (ltb mostRecordWords (held + wordsNeeded c)) (answer 28 num 1 0) _ tt (sym e) .0)
 
 pub counts-is : (num : ℕ) (row : List ℕ) → let right = inRange (countsOf row) in
     countsIn num (take 16 row) ≡ (if ltb right 4 then refused (answer 27 num (columnOf (12 + right)) 0) else passed (take 16 row))
@@ -75,7 +75,7 @@ cards-most num held lines e =
 
 -- the fields behind the counts, read into the row: LPROL stands where it stood
 pub prologue-on : (num : ℕ) (l row row′ : List ℕ) (v : Verdict Head) → let used = min (getD row 12 0) 20 in 16 ≤ getD row 12 0 → 16 ≤ length row
-    → passed (take (16 + (used - 16)) row′) ≡ onward (numbers num l 16 (used - 16)) (λ ws. passed (take 16 row ++ ws))
+    → passed (take (16 + (used - 16)) row′) ≡ onward (fieldNumbers num l 16 (used - 16)) (λ ws. passed (take 16 row ++ ws))
     → v ≡ onward (blankAfter num l (6 * min (getD row′ 12 0) 20)) (λ _. passed (counts (take (min (getD row′ 12 0) 20) row′)))
     → v ≡ prologueFields num l (take 16 row)
 unfolding prologueFields
@@ -83,7 +83,7 @@ prologue-on num l row row′ v low long read said =
     let lprol = getD row 12 0 in
     let used = min lprol 20 in
     let e : 16 + (used - 16) ≡ used = omega arith in
-    rw (getD-take 16 row 12 0 (omega arith)) (by (numbers num l 16 (used - 16)) (rw e at read))
+    rw (getD-take 16 row 12 0 (omega arith)) (by (fieldNumbers num l 16 (used - 16)) (rw e at read))
   where
     by : (w : Verdict (List ℕ)) → passed (take (min (getD row 12 0) 20) row′) ≡ onward w (λ ws. passed (take 16 row ++ ws))
         → v ≡ onward w (λ more. onward (blankAfter num l (6 * min (getD row 12 0) 20)) (λ _. passed (counts (take 16 row ++ more))))
@@ -95,7 +95,7 @@ prologue-on num l row row′ v low long read said =
     by (refused a) g = absurd (never-passed (sym g))
 
 pub prologue-is : (num : ℕ) (l row : List ℕ) → let used = min (getD row 12 0) 20 in
-    prologueFields num l (take 16 row) ≡ onward (numbers num l 16 (used - 16)) (λ more. onward (blankAfter num l (6 * used)) (λ _. passed (counts (take 16 row ++ more))))
+    prologueFields num l (take 16 row) ≡ onward (fieldNumbers num l 16 (used - 16)) (λ more. onward (blankAfter num l (6 * used)) (λ _. passed (counts (take 16 row ++ more))))
 unfolding prologueFields
 prologue-is num l row = rw (getD-take 16 row 12 0 (omega arith))
 

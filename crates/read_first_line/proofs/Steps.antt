@@ -6,28 +6,28 @@ use Rattle.units.specs.declared.Answer.{Answer}
 use Rattle.units.specs.Answers.{Verdict, passed, refused, onward}
 use Rattle.units.proofs.Verdicts.{never-passed}
 use Rattle.read_columns.specs.declared.Flaw.{Flaw}
-use Rattle.read_columns.specs.declared.Checked.{Checked}
-use Rattle.read_columns.specs.declared.Checked.the-variants.{Good, Flawed}
-use Rattle.read_columns.specs.Cases.{flawOf, checkedOf}
+use Rattle.read_columns.specs.declared.Tested.{Tested}
+use Rattle.read_columns.specs.declared.Tested.the-variants.{Good, Flawed}
+use Rattle.read_columns.specs.Cases.{flawOf, testedOf}
 use Rattle.read_first_line.specs.FirstLine.{Shape, Read}
 use Rattle.read_first_line.specs.State.{Stand, Stepped}
 use Rattle.read_first_line.specs.declared.Step.{Step}
 use Rattle.read_first_line.specs.declared.Step.the-variants.{Refused}
 
 -- what a check says, by what it returned
-pub told : {A : Type 0} (x : A) {r r′ : Checked} {v : Verdict A} → r ≡ r′ → checkedOf x r ≡ v → checkedOf x r′ ≡ v
-told x e said = ap (checkedOf x) (sym e) ∙ said
+pub said-by : {A : Type 0} (x : A) {r r′ : Tested} {v : Verdict A} → r ≡ r′ → testedOf x r ≡ v → testedOf x r′ ≡ v
+said-by x e said = ap (testedOf x) (sym e) ∙ said
 
 -- a check comes first: where it refuses, that is the verdict, and else what follows
-module _ {A B : Type 0} (v : Verdict A) (next : A → Verdict B) (x : A) {r : Checked} where
-  pub flaw-stops : {f : Flaw} → r ≡ Flawed f → checkedOf x r ≡ v → refused (flawOf f) ≡ onward v next
-  flaw-stops e said = rw (sym (told x e said))
+module _ {A B : Type 0} (v : Verdict A) (next : A → Verdict B) (x : A) {r : Tested} where
+  pub flaw-stops : {f : Flaw} → r ≡ Flawed f → testedOf x r ≡ v → refused (flawOf f) ≡ onward v next
+  flaw-stops e said = rw (sym (said-by x e said))
 
-  pub good-passes : {w : Verdict B} → r ≡ Good → checkedOf x r ≡ v → w ≡ next x → w ≡ onward v next
-  good-passes e said s = rw (sym (told x e said)) s
+  pub good-passes : {w : Verdict B} → r ≡ Good → testedOf x r ≡ v → w ≡ next x → w ≡ onward v next
+  good-passes e said s = rw (sym (said-by x e said)) s
 
 -- a check that only passes or refuses
-pub checked-on : {A : Type 0} (x : A) (r : Checked) (v : Verdict (Unit {0})) → checkedOf tt r ≡ v → checkedOf x r ≡ onward v (λ _. passed x)
+pub checked-on : {A : Type 0} (x : A) (r : Tested) (v : Verdict (Unit {0})) → testedOf tt r ≡ v → testedOf x r ≡ onward v (λ _. passed x)
 checked-on x Good v e = rw (sym e)
 checked-on x (Flawed f) v e = rw (sym e)
 
@@ -41,12 +41,12 @@ module _ {B : Type 0} (head : List ℕ) (next : List ℕ → Verdict B) where
   read-go (passed ws) row e = ap next cc
   read-go (refused a) row e = absurd (never-passed (sym e))
 
-  module _ (v : Verdict (List ℕ)) (row : List ℕ) {r : Checked} where
-    pub flaw-read : {f : Flaw} → r ≡ Flawed f → checkedOf row r ≡ onward v (λ ws. passed (head ++ ws)) → refused (flawOf f) ≡ onward v (λ ws. next (head ++ ws))
-    flaw-read {f} e said = read-stop v (flawOf f) (told row e said)
+  module _ (v : Verdict (List ℕ)) (row : List ℕ) {r : Tested} where
+    pub flaw-read : {f : Flaw} → r ≡ Flawed f → testedOf row r ≡ onward v (λ ws. passed (head ++ ws)) → refused (flawOf f) ≡ onward v (λ ws. next (head ++ ws))
+    flaw-read {f} e said = read-stop v (flawOf f) (said-by row e said)
 
-    pub good-read : r ≡ Good → checkedOf row r ≡ onward v (λ ws. passed (head ++ ws)) → next row ≡ onward v (λ ws. next (head ++ ws))
-    good-read e said = read-go v row (told row e said)
+    pub good-read : r ≡ Good → testedOf row r ≡ onward v (λ ws. passed (head ++ ws)) → next row ≡ onward v (λ ws. next (head ++ ws))
+    good-read e said = read-go v row (said-by row e said)
 
 -- ---- a step
 
@@ -59,12 +59,12 @@ pub same-step : {held : ℕ} {b b′ : List ℕ} {r : Step} (v w : Verdict Read)
 same-step v w e s = rw (sym e) s
 
 -- a check comes first: where it refuses, the line ends, and else it goes on
-module _ {A : Type 0} {held : ℕ} {b b′ : List ℕ} (v : Verdict A) (next : A → Verdict Read) (x : A) {r : Checked} where
-  pub flaw-ends : {f : Flaw} → r ≡ Flawed f → checkedOf x r ≡ v → Stepped held b (onward v next) b′ (Refused f)
+module _ {A : Type 0} {held : ℕ} {b b′ : List ℕ} (v : Verdict A) (next : A → Verdict Read) (x : A) {r : Tested} where
+  pub flaw-ends : {f : Flaw} → r ≡ Flawed f → testedOf x r ≡ v → Stepped held b (onward v next) b′ (Refused f)
   flaw-ends {f} e said = stops (onward v next) f (flaw-stops v next x e said)
 
-  pub good-goes : {s : Step} → r ≡ Good → checkedOf x r ≡ v → Stepped held b (next x) b′ s → Stepped held b (onward v next) b′ s
-  good-goes e said s = rw (sym (told x e said)) s
+  pub good-goes : {s : Step} → r ≡ Good → testedOf x r ≡ v → Stepped held b (next x) b′ s → Stepped held b (onward v next) b′ s
+  good-goes e said s = rw (sym (said-by x e said)) s
 
 -- where a line is accepted: what is to come, the words so far and the block
 pub passed-stand : {rest rest′ : List Shape} {held held′ : ℕ} {b b′ : List ℕ} → rest ≡ rest′ → held ≡ held′ → b ≡ b′ →

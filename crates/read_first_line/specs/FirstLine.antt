@@ -11,7 +11,7 @@ use Rattle.words.specs.Words.{word, mostRecordWords}
 use Rattle.record.specs.declared.Counts.{Counts}
 use Rattle.record.specs.Counts.{countsOf, wordsNeeded, linesNeeded, inRange}
 use Rattle.line_plan.specs.Plan.{plan}
-use Rattle.read_columns.specs.Columns.{blankAfter, columnOf, numbers, zeros}
+use Rattle.read_columns.specs.Columns.{blankAfter, columnOf, fieldNumbers, zeroFields}
 
 -- a line still to come of a record: a card, or n number fields
 pub data Shape : Type 0 where
@@ -36,11 +36,11 @@ pub data Head : Type 0 where
 
 -- "the further fields its kind always has": a Catalogue's 13 to 20 are blank or 0
 unfoldable pub catalogueFields : ℕ → Line → List ℕ → Verdict Head
-catalogueFields num l first = onward (zeros num l 12 8) (λ _. passed (cards 2001 first))
+catalogueFields num l first = onward (zeroFields num l 12 8) (λ _. passed (cards 2001 first))
 
 -- a Header's 13 to 15 are free, and its 16 to 20 blank or 0
 unfoldable pub headerFields : ℕ → Line → List ℕ → Verdict Head
-headerFields num l first = onward (numbers num l 12 3) (λ more. onward (zeros num l 15 5) (λ _. passed (cards 3002 (first ++ more))))
+headerFields num l first = onward (fieldNumbers num l 12 3) (λ more. onward (zeroFields num l 15 5) (λ _. passed (cards 3002 (first ++ more))))
 
 -- row 27: "Data counts out of range: line, first column of the first such field"
 unfoldable pub countsIn : ℕ → List ℕ → Verdict (List ℕ)
@@ -50,13 +50,13 @@ countsIn num r =
 
 -- "Data: 13 to 16", then 27
 unfoldable pub countFields : ℕ → Line → List ℕ → Verdict (List ℕ)
-countFields num l first = onward (numbers num l 12 4) (λ more. countsIn num (first ++ more))
+countFields num l first = onward (fieldNumbers num l 12 4) (λ more. countsIn num (first ++ more))
 
 -- "fields 17 on, then blank columns by 26"
 unfoldable pub prologueFields : ℕ → Line → List ℕ → Verdict Head
 prologueFields num l r =
     let used = min (word r 13) 20 in
-    onward (numbers num l 16 (used - 16)) (λ more. onward (blankAfter num l (columnsOfFields used)) (λ _. passed (counts (r ++ more))))
+    onward (fieldNumbers num l 16 (used - 16)) (λ more. onward (blankAfter num l (columnsOfFields used)) (λ _. passed (counts (r ++ more))))
 
 -- "Data: 27, fields 17 on, then blank columns by 26"
 unfoldable pub dataFields : ℕ → Line → List ℕ → Verdict Head
@@ -72,7 +72,7 @@ kindFields num l first =
 
 -- after 20, which `readLine` tests: "fields 1 to 12; 23; the further fields its kind always has"
 unfoldable pub firstFields : ℕ → Line → Verdict Head
-firstFields num l = onward (numbers num l 0 12) (λ first. kindFields num l first)
+firstFields num l = onward (fieldNumbers num l 0 12) (λ first. kindFields num l first)
 
 -- ---- its counts, where `held` record words stand before it; `lines` is the stated line count
 

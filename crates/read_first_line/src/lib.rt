@@ -1,6 +1,6 @@
 // Reads a record's first line, which says what is to come of the record, and puts its words into a block as far as that has room.
-use read_columns::Checked;
 use read_columns::Flaw;
+use read_columns::Tested;
 use record::Counts;
 use units::Lines;
 use units::Words;
@@ -12,10 +12,10 @@ ghost use lib.Seq.{slice};
 ghost use Rattle.words.specs.Words.{mostRecordWords};
 ghost use Rattle.units.specs.Units.{columnsOfFields};
 ghost use Rattle.units.specs.Answers.{passed, onward};
-ghost use Rattle.read_columns.specs.Columns.{blankAfter, zeros};
+ghost use Rattle.read_columns.specs.Columns.{blankAfter, zeroFields};
 ghost use Rattle.record.specs.Counts.{countsOf, wordsNeeded};
 ghost use Rattle.line_plan.specs.Plan.{plan};
-ghost use Rattle.read_columns.specs.Cases.{checkedOf};
+ghost use Rattle.read_columns.specs.Cases.{testedOf};
 ghost use Rattle.read_first_line.specs.FirstLine.{card, fields, cards, counts, countsIn, countFields, catalogueFields, headerFields, prologueFields, dataFields, kindFields, firstFields, cardsRoom, dataRoom, cardsGiven, dataGiven, headLine, firstLine};
 ghost use Rattle.read_first_line.specs.State.{toCome, Stepped, put, headOf};
 
@@ -62,18 +62,18 @@ fn catalogue_fields(num: Lines, line: &[u8], row: &[u16]) -> Opening
     ensures { λ r. ⌜ headOf (now (row .entry)) r ≡ catalogueFields (num .0) (now (line .entry)) (take 12 (now (row .entry))) ⌝ }
 {
     match read_columns::zero_fields(line, num, Words(12), Words(8)) {
-        Checked::Flawed(f) => Opening::Flawed(f),
-        Checked::Good => Opening::Catalogue,
+        Tested::Flawed(f) => Opening::Flawed(f),
+        Tested::Good => Opening::Catalogue,
     }
 }
 
 // A Header's fields behind the first 15.
 fn header_zeros(num: Lines, line: &[u8], row: &[u16]) -> Opening
-    ensures { λ r. ⌜ headOf (now (row .entry)) r ≡ onward (zeros (num .0) (now (line .entry)) 15 5) (λ _. passed (cards 3002 (take 15 (now (row .entry))))) ⌝ }
+    ensures { λ r. ⌜ headOf (now (row .entry)) r ≡ onward (zeroFields (num .0) (now (line .entry)) 15 5) (λ _. passed (cards 3002 (take 15 (now (row .entry))))) ⌝ }
 {
     match read_columns::zero_fields(line, num, Words(15), Words(5)) {
-        Checked::Flawed(f) => Opening::Flawed(f),
-        Checked::Good => Opening::Header,
+        Tested::Flawed(f) => Opening::Flawed(f),
+        Tested::Good => Opening::Header,
     }
 }
 
@@ -83,8 +83,8 @@ fn header_fields(num: Lines, line: &[u8], row: &mut [u16]) -> Opening
     ensures { λ r. ⌜ headOf (now (row .exit)) r ≡ headerFields (num .0) (now (line .entry)) (take 12 (now (row .entry))) ⌝ }
 {
     match read_columns::read_numbers(line, num, Words(12), Words(3), row) {
-        Checked::Flawed(f) => Opening::Flawed(f),
-        Checked::Good => header_zeros(num, line, row),
+        Tested::Flawed(f) => Opening::Flawed(f),
+        Tested::Good => header_zeros(num, line, row),
     }
 }
 
@@ -102,26 +102,26 @@ fn row_counts(row: &[u16]) -> Counts
 }
 
 // A Data record's four counts.
-fn counts_in(num: Lines, row: &[u16]) -> Checked
+fn counts_in(num: Lines, row: &[u16]) -> Tested
     requires { ⌜ length (now row) ≡ 20 ⌝ }
-    ensures { λ r. ⌜ checkedOf (take 16 (now (row .entry))) r ≡ countsIn (num .0) (take 16 (now (row .entry))) ⌝ }
+    ensures { λ r. ⌜ testedOf (take 16 (now (row .entry))) r ≡ countsIn (num .0) (take 16 (now (row .entry))) ⌝ }
 {
     let right = record::in_range(row_counts(row));
     if right < 4 {
         let field = 12 + right as usize;
-        return Checked::Flawed(Flaw::Range(num, read_columns::column_of(Words(field))));
+        return Tested::Flawed(Flaw::Range(num, read_columns::column_of(Words(field))));
     }
-    Checked::Good
+    Tested::Good
 }
 
 // A Data record's four counts, read and tested.
-fn count_fields(num: Lines, line: &[u8], row: &mut [u16]) -> Checked
+fn count_fields(num: Lines, line: &[u8], row: &mut [u16]) -> Tested
     requires { ⌜ length (now row) ≡ 20 ⌝ }
-    ensures { λ r. ⌜ checkedOf (take 16 (now (row .exit))) r ≡ countFields (num .0) (now (line .entry)) (take 12 (now (row .entry))) ⌝ }
+    ensures { λ r. ⌜ testedOf (take 16 (now (row .exit))) r ≡ countFields (num .0) (now (line .entry)) (take 12 (now (row .entry))) ⌝ }
 {
     match read_columns::read_numbers(line, num, Words(12), Words(4), row) {
-        Checked::Flawed(f) => Checked::Flawed(f),
-        Checked::Good => counts_in(num, row),
+        Tested::Flawed(f) => Tested::Flawed(f),
+        Tested::Good => counts_in(num, row),
     }
 }
 
@@ -132,8 +132,8 @@ fn data_blanks(num: Lines, line: &[u8], row: &[u16]) -> Opening
 {
     let used = line_plan::on_line(units::words_said(row[12]));
     match read_columns::blank_after(line, num, units::columns_of_fields(used)) {
-        Checked::Flawed(f) => Opening::Flawed(f),
-        Checked::Good => Opening::Data,
+        Tested::Flawed(f) => Opening::Flawed(f),
+        Tested::Good => Opening::Data,
     }
 }
 
@@ -144,8 +144,8 @@ fn prologue_fields(num: Lines, line: &[u8], row: &mut [u16]) -> Opening
 {
     let more = line_plan::on_line(units::words_said(row[12])).0 - 16;
     match read_columns::read_numbers(line, num, Words(16), Words(more), row) {
-        Checked::Flawed(f) => Opening::Flawed(f),
-        Checked::Good => data_blanks(num, line, row),
+        Tested::Flawed(f) => Opening::Flawed(f),
+        Tested::Good => data_blanks(num, line, row),
     }
 }
 
@@ -155,8 +155,8 @@ fn data_fields(num: Lines, line: &[u8], row: &mut [u16]) -> Opening
     ensures { λ r. ⌜ headOf (now (row .exit)) r ≡ dataFields (num .0) (now (line .entry)) (take 12 (now (row .entry))) ⌝ }
 {
     match count_fields(num, line, row) {
-        Checked::Flawed(f) => Opening::Flawed(f),
-        Checked::Good => prologue_fields(num, line, row),
+        Tested::Flawed(f) => Opening::Flawed(f),
+        Tested::Good => prologue_fields(num, line, row),
     }
 }
 
@@ -184,8 +184,8 @@ fn first_fields(num: Lines, line: &[u8], row: &mut [u16]) -> Opening
     ensures { λ r. ⌜ headOf (now (row .exit)) r ≡ firstFields (num .0) (now (line .entry)) ⌝ }
 {
     match read_columns::read_numbers(line, num, Words(0), Words(12), row) {
-        Checked::Flawed(f) => Opening::Flawed(f),
-        Checked::Good => kind_fields(num, line, row),
+        Tested::Flawed(f) => Opening::Flawed(f),
+        Tested::Good => kind_fields(num, line, row),
     }
 }
 
@@ -217,22 +217,22 @@ fn put_cards_head(total: Words, kind: u16, used: Words, row: &[u16], block: &mut
 }
 
 // A Catalogue's or a Header's stated line count may stand, and there is room for that many.
-fn cards_room(num: Lines, held: Words, stated: u16) -> Checked
+fn cards_room(num: Lines, held: Words, stated: u16) -> Tested
     requires { ⌜ held .0 ≤ mostRecordWords ⌝ }
-    ensures { λ r. ⌜ checkedOf tt r ≡ cardsRoom (num .0) (held .0) stated ⌝ }
+    ensures { λ r. ⌜ testedOf tt r ≡ cardsRoom (num .0) (held .0) stated ⌝ }
 {
     let before = held.0;
     if stated < 1 {
-        return Checked::Flawed(Flaw::Count(num));
+        return Tested::Flawed(Flaw::Count(num));
     }
     if 199 < stated {
-        return Checked::Flawed(Flaw::Count(num));
+        return Tested::Flawed(Flaw::Count(num));
     }
     let all = before + units::words_of_cards(units::lines_said(stated)).0;
     if words::MOST_RECORD_WORDS < all {
-        return Checked::Flawed(Flaw::Much(num));
+        return Tested::Flawed(Flaw::Much(num));
     }
-    Checked::Good
+    Tested::Good
 }
 
 // Puts the words of a Catalogue's or a Header's first line.
@@ -260,25 +260,25 @@ fn cards_line(
     ensures { λ r. ⌜ Stepped (held .0) (now (block .entry)) (headLine (num .0) (held .0) (cards kind (take (used .0) (now (row .entry))))) (now (block .exit)) r ⌝ }
 {
     match cards_room(num, held, row[0]) {
-        Checked::Flawed(f) => Step::Refused(f),
-        Checked::Good => put_cards(kind, held, used, row, block),
+        Tested::Flawed(f) => Step::Refused(f),
+        Tested::Good => put_cards(kind, held, used, row, block),
     }
 }
 
 // There is room for a Data record with these counts, and its stated line count is what they need.
-fn data_room(num: Lines, held: Words, lines: u16, c: Counts) -> Checked
+fn data_room(num: Lines, held: Words, lines: u16, c: Counts) -> Tested
     requires { ⌜ held .0 ≤ mostRecordWords ⌝ }
-    ensures { λ r. ⌜ checkedOf tt r ≡ dataRoom (num .0) (held .0) lines c ⌝ }
+    ensures { λ r. ⌜ testedOf tt r ≡ dataRoom (num .0) (held .0) lines c ⌝ }
 {
     let before = held.0;
     let all = before + record::words_needed(c).0;
     if words::MOST_RECORD_WORDS < all {
-        return Checked::Flawed(Flaw::Much(num));
+        return Tested::Flawed(Flaw::Much(num));
     }
     if lines as usize != record::lines_needed(c).0 {
-        return Checked::Flawed(Flaw::Count(num));
+        return Tested::Flawed(Flaw::Count(num));
     }
-    Checked::Good
+    Tested::Good
 }
 
 // What is to come of a Data record after the fields of its first line.
@@ -323,8 +323,8 @@ fn data_line(num: Lines, held: Words, row: &[u16], block: &mut [u8]) -> Step
 {
     let used = line_plan::on_line(units::words_said(row[12]));
     match data_room(num, held, row[0], row_counts(row)) {
-        Checked::Flawed(f) => Step::Refused(f),
-        Checked::Good => put_data(held, used, row, block),
+        Tested::Flawed(f) => Step::Refused(f),
+        Tested::Good => put_data(held, used, row, block),
     }
 }
 

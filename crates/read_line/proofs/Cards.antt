@@ -11,8 +11,8 @@ use Rattle.field.specs.Reading.{columns}
 use Rattle.read_columns.proofs.Columns.{length-columns, columns-are, columns-all, columns-full}
 
 -- a card's words are its 80 columns
-pub card-bytes : (l : List ℕ) → Below 256 l → bytesOf (wordsOf (columns 80 l 0)) ≡ columns 80 l 0
-card-bytes l h = bytes-words (columns 80 l 0) (let e = length-columns 80 l 0 in omega arith) (columns-all (λ b. b < 256) (omega arith) 80 l 0 h)
+pub card-columns : (l : List ℕ) → Below 256 l → bytesOf (wordsOf (columns 80 l 0)) ≡ columns 80 l 0
+card-columns l h = bytes-words (columns 80 l 0) (let e = length-columns 80 l 0 in omega arith) (columns-all (λ b. b < 256) (omega arith) 80 l 0 h)
 
 -- a line of 80 bytes or more has them all
 pub long-card : (l : List ℕ) → 80 ≤ length l → columns 80 l 0 ≡ take 80 l

@@ -8,12 +8,12 @@ use Rattle.units.specs.Units.{columnsOfFields, Line}
 use Rattle.units.specs.Answers.{answer, Verdict, passed, refused, onward}
 use Rattle.words.specs.Words.{wordsOf}
 use Rattle.field.specs.Reading.{columns}
-use Rattle.read_columns.specs.Columns.{plainLine, blankAfter, blankLine, numbers}
+use Rattle.read_columns.specs.Columns.{plainLine, blankAfter, blankLine, fieldNumbers}
 use Rattle.read_first_line.specs.FirstLine.{Shape, card, fields, Read, gives, firstLine}
 
 -- of a later line, after 25 and 20: "fields by 22, blank columns by 26"
 unfoldable pub rowFields : ℕ → Line → ℕ → Verdict (List ℕ)
-rowFields num l n = onward (numbers num l 0 n) (λ ws. onward (blankAfter num l (columnsOfFields n)) (λ _. passed ws))
+rowFields num l n = onward (fieldNumbers num l 0 n) (λ ws. onward (blankAfter num l (columnsOfFields n)) (λ _. passed ws))
 
 -- "Each card is one line of 80 columns", and 81 to 120 are blank; "Within a record a blank line is a blank card, or a Data line with bad fields"; "Blank lines may stand before, between and after records"
 unfoldable pub inState : ℕ → ℕ → List Shape → Line → Verdict Read

@@ -1,6 +1,6 @@
 // Reads a line of a text, by what is to come of a record, and puts its words into a block as far as that has room.
-use read_columns::Checked;
 use read_columns::Flaw;
+use read_columns::Tested;
 use read_first_line::Plan;
 use read_first_line::Step;
 use units::Bytes;
@@ -14,7 +14,7 @@ ghost use Rattle.words.specs.Words.{wordsOf, mostRecordWords};
 ghost use Rattle.words.specs.Scans.{plainIn};
 ghost use Rattle.line_plan.specs.Plan.{part, times};
 ghost use Rattle.field.specs.Reading.{columns};
-ghost use Rattle.read_columns.specs.Cases.{checkedOf};
+ghost use Rattle.read_columns.specs.Cases.{testedOf};
 ghost use Rattle.read_first_line.specs.FirstLine.{card, fields};
 ghost use Rattle.read_first_line.specs.State.{toCome, Stepped, put};
 ghost use Rattle.read_line.specs.Lines.{rowFields, inState, readLine};
@@ -103,8 +103,8 @@ fn card_line(p: Plan, num: Lines, held: Words, line: &[u8], block: &mut [u8]) ->
     let behind = held.0 + 40;
     let rest = one_card_less(p);
     match read_columns::blank_after(line, num, Bytes(80)) {
-        Checked::Flawed(f) => Step::Refused(f),
-        Checked::Good => {
+        Tested::Flawed(f) => Step::Refused(f),
+        Tested::Good => {
             put_card(line, block, held);
             Step::Next(rest, Words(behind))
         }
@@ -138,13 +138,13 @@ fn one_card_less(p: Plan) -> Plan
 }
 
 // The fields of a later line of a Data record, and nothing behind them.
-fn row_fields(num: Lines, count: Words, line: &[u8], row: &mut [u16]) -> Checked
+fn row_fields(num: Lines, count: Words, line: &[u8], row: &mut [u16]) -> Tested
     requires { ⌜ (count .0 ≤ 20) × (length (now row) ≡ 20) ⌝ }
-    ensures { λ r. ⌜ checkedOf (take (count .0) (now (row .exit))) r ≡ rowFields (num .0) (now (line .entry)) (count .0) ⌝ }
+    ensures { λ r. ⌜ testedOf (take (count .0) (now (row .exit))) r ≡ rowFields (num .0) (now (line .entry)) (count .0) ⌝ }
 {
     match read_columns::read_numbers(line, num, Words(0), count, row) {
-        Checked::Flawed(f) => Checked::Flawed(f),
-        Checked::Good => read_columns::blank_after(line, num, units::columns_of_fields(count)),
+        Tested::Flawed(f) => Tested::Flawed(f),
+        Tested::Good => read_columns::blank_after(line, num, units::columns_of_fields(count)),
     }
 }
 
@@ -166,8 +166,8 @@ fn fields_line(
     let behind = held.0 + count.0;
     let rest = one_line_less(p, count);
     match row_fields(num, count, line, row) {
-        Checked::Flawed(f) => Step::Refused(f),
-        Checked::Good => {
+        Tested::Flawed(f) => Step::Refused(f),
+        Tested::Good => {
             read_store::store_words(row, Words(0), count, block, Words(first));
             Step::Next(rest, Words(behind))
         }

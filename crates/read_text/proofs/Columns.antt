@@ -11,7 +11,7 @@ use lib.ListN.{length, take, drop, length-take, length-drop}
 use lib.Seq.{take-all}
 use Rattle.units.specs.Answers.{answer, passed, refused}
 use Rattle.units.proofs.Verdicts.{and-on}
-use Rattle.words.specs.Words.{wordsOf, All, Below}
+use Rattle.words.specs.Words.{wordsOf, All, Below, mostWords}
 use Rattle.words.specs.Scans.{passing, within, plainIn}
 use Rattle.words.proofs.Scans.{scan-take, scan-le, all-pass}
 use Rattle.read_columns.proofs.Columns.{part-columns}
@@ -22,7 +22,7 @@ use Rattle.field.specs.declared.Scan.{Scan}
 use Rattle.field.specs.declared.Scan.the-variants.{Blank, Sign, Digits, Spoiled}
 use Rattle.field.specs.Reading.{finishOf, scanOf, readField, columns}
 use Rattle.units.specs.Units.{Line}
-use Rattle.read_columns.specs.Columns.{rightTo, plainLine, isBlank, blankTo, blankAfter, columnOf, wordIn, number, numbers, blankField, zeroField, zeros}
+use Rattle.read_columns.specs.Columns.{rightTo, plainLine, isBlank, blankTo, blankAfter, columnOf, wordIn, number, fieldNumbers, blankField, zeroField, zeroFields}
 use Rattle.read_text.specs.Spelled.{PlainByte, Readable, Blanks, Spells, SpellsAll, SpellsZero}
 use Rattle.units.proofs.Told.{Known, then-known, known-as}
 use Rattle.read_text.proofs.Told.{told}
@@ -69,18 +69,18 @@ card-words (x ∷ y ∷ r) h =
 -- ---- number fields
 
 -- a field's number is a word
-abbrev Fits : Number → Type 0
-Fits (Word w) = w < 65536
-Fits Bad = Unit {0}
+abbrev IsWord : Number → Type 0
+IsWord (Word w) = w < 65536
+IsWord Bad = Unit {0}
 
-finish-fits : (s : Scan) → Fits (finishOf s)
+finish-fits : (s : Scan) → IsWord (finishOf s)
 finish-fits Blank = tt
 finish-fits (Sign minus) = tt
-finish-fits (Digits true m) = by-test Fits (leb m 32768) (Word ((65536 - m) % 65536)) Bad (λ _. omega arith) (λ _. tt)
-finish-fits (Digits false m) = by-test Fits (leb m 32767) (Word m) Bad (λ t. omega (arith, leb-true m 32767 t)) (λ _. tt)
+finish-fits (Digits true m) = by-test IsWord (leb m 32768) (Word ((65536 - m) % 65536)) Bad (λ _. omega arith) (λ _. tt)
+finish-fits (Digits false m) = by-test IsWord (leb m 32767) (Word m) Bad (λ t. omega (arith, leb-true m 32767 t)) (λ _. tt)
 finish-fits Spoiled = tt
 
-read-fits : (bs : List ℕ) → Fits (readField bs)
+read-fits : (bs : List ℕ) → IsWord (readField bs)
 unfolding readField
 read-fits bs = finish-fits (scanOf Blank bs)
 
@@ -89,9 +89,9 @@ pub record WordsRead (l : Line) (k m : ℕ) (ws : List ℕ) : Type 0 where
   pub count : length ws ≡ m
   pub spells : SpellsAll l k ws
 
-pub words-below : (l : Line) (k : ℕ) (ws : List ℕ) → SpellsAll l k ws → Below 65536 ws
-words-below l k [] h = tt
-words-below l k (w ∷ ws) h = (rw (h .0) at (read-fits (columns 6 l (6 * k))), words-below l (suc k) ws (h .1))
+pub spelled-below : (l : Line) (k : ℕ) (ws : List ℕ) → SpellsAll l k ws → Below 65536 ws
+spelled-below l k [] h = tt
+spelled-below l k (w ∷ ws) h = (rw (h .0) at (read-fits (columns 6 l (6 * k))), spelled-below l (suc k) ws (h .1))
 
 -- ---- blanks
 
@@ -107,7 +107,7 @@ blank-field l k e =
 
 -- line number num, of which no field past the 8,000th is asked for
 module _ (num : ℕ) (hn : num < 2 ^ 24) (l : Line) where
-  number-known : (k : ℕ) → k < 8000 → Known TextRow (Spells l k) (number num l k)
+  number-known : (k : ℕ) → k < mostWords → Known TextRow (Spells l k) (number num l k)
   unfolding number
   number-known k h = by (readField (columns 6 l (6 * k))) refl
     where
@@ -115,15 +115,15 @@ module _ (num : ℕ) (hn : num < 2 ^ 24) (l : Line) where
       by (Word w) e = e
       by Bad e = told 22 num (columnOf k) (omega arith) hn (omega arith)
 
-  pub numbers-known : (k m : ℕ) → k + m ≤ 8000 → Known TextRow (WordsRead l k m) (numbers num l k m)
-  unfolding numbers
+  pub numbers-known : (k m : ℕ) → k + m ≤ mostWords → Known TextRow (WordsRead l k m) (fieldNumbers num l k m)
+  unfolding fieldNumbers
   numbers-known k zero h = record { count = refl; spells = tt }
   numbers-known k (suc m) h =
       then-known TextRow (Spells l k) (WordsRead l k (suc m)) (number num l k) _ (number-known k (omega arith))
-      (λ w hw. then-known TextRow (WordsRead l (suc k) m) (WordsRead l k (suc m)) (numbers num l (suc k) m) _ (numbers-known (suc k) m (omega arith))
+      (λ w hw. then-known TextRow (WordsRead l (suc k) m) (WordsRead l k (suc m)) (fieldNumbers num l (suc k) m) _ (numbers-known (suc k) m (omega arith))
       (λ ws r. record { count = ap suc (r .count); spells = (hw, r .spells) }))
 
-  zero-known : (k : ℕ) → k < 8000 → Known TextRow (λ _. SpellsZero l k) (zeroField num l k)
+  zero-known : (k : ℕ) → k < mostWords → Known TextRow (λ _. SpellsZero l k) (zeroField num l k)
   unfolding zeroField
   zero-known k h =
       by-test (Known TextRow Z) (blankField l k) (passed tt) _ (λ t. inl (blank-field l k t))
@@ -137,12 +137,12 @@ module _ (num : ℕ) (hn : num < 2 ^ 24) (l : Line) where
   abbrev pub ZerosRead : ℕ → ℕ → Type 0
   ZerosRead k m = (j : ℕ) → k ≤ j → j < k + m → SpellsZero l j
 
-  pub zeros-known : (k m : ℕ) → k + m ≤ 8000 → Known TextRow (λ _. ZerosRead k m) (zeros num l k m)
-  unfolding zeros
+  pub zeros-known : (k m : ℕ) → k + m ≤ mostWords → Known TextRow (λ _. ZerosRead k m) (zeroFields num l k m)
+  unfolding zeroFields
   zeros-known k zero h = λ j low high. absurd (omega arith)
   zeros-known k (suc m) h =
       then-known TextRow (λ _. SpellsZero l k) (λ _. ZerosRead k (suc m)) (zeroField num l k) _ (zero-known k (omega arith))
-      (λ _ z. known-as TextRow (λ _. ZerosRead (suc k) m) (λ _. ZerosRead k (suc m)) (zeros num l (suc k) m) (zeros-known (suc k) m (omega arith))
+      (λ _ z. known-as TextRow (λ _. ZerosRead (suc k) m) (λ _. ZerosRead k (suc m)) (zeroFields num l (suc k) m) (zeros-known (suc k) m (omega arith))
       (λ _ zs j low high. by j low high z zs (eqb j k) refl))
     where
       by : (j : ℕ) → k ≤ j → j < k + suc m → SpellsZero l k → ZerosRead (suc k) m → (t : Bool) → eqb j k ≡ t → SpellsZero l j

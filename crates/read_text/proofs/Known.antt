@@ -9,7 +9,7 @@ use lib.Dec.{ltb, eqb}
 use lib.ListN.{length, length-append}
 use Rattle.units.specs.declared.Answer.{Answer}
 use Rattle.units.specs.Answers.{answer, Verdict, passed, refused, onward, Packs}
-use Rattle.words.specs.Words.{bytesOf, framed}
+use Rattle.words.specs.Words.{bytesOf, framed, mostRecordWords}
 use Rattle.words.specs.Outcomes.{written}
 use Rattle.words.proofs.Sealing.{length-framed}
 use Rattle.words.proofs.Writing.{written-told}
@@ -22,7 +22,7 @@ use Rattle.read_text.specs.Block.{readText, toBlock}
 use Rattle.units.proofs.Told.{Known, then-known}
 use Rattle.read_text.proofs.Told.{told}
 use Rattle.units.proofs.Choosing.{by-test, both-ways}
-use Rattle.read_text.proofs.Opened.{wordsToCome, skipped, opens, Given, Taken, line-wide, line-known}
+use Rattle.read_text.proofs.Opened.{wordsToCome, skipped, opens, Given, Taken, line-wide, line-known, RoomToCome}
 
 -- ---- the lines of a text
 
@@ -47,23 +47,23 @@ lines-most (b ∷ t) =
 -- behind `held` record words these are some, and no more than a block has room for
 pub record WordsFit (held : ℕ) (ws : List ℕ) : Type 0 where
   pub some : 1 ≤ held + length ws
-  pub most : held + length ws ≤ 7998
+  pub most : held + length ws ≤ mostRecordWords
 
 -- an accepted line leaves room for the lines to come
-pub room-on : (held : ℕ) (rest : List Shape) (l : Line) (s : Read) → held + wordsToCome rest ≤ 7998 → Given held rest l s → held + length (s .words) + wordsToCome (s .rest) ≤ 7998
+pub room-on : (held : ℕ) (rest : List Shape) (l : Line) (s : Read) → RoomToCome held rest → Given held rest l s → RoomToCome (held + length (s .words)) (s .rest)
 unfolding wordsToCome
 room-on held (x ∷ rest) l s h g = rw (g .0) (omega (arith, line-wide x l (s .words) (g .1)))
 room-on held [] l s h (skipped b w r) = rw (w, r) (omega arith)
 room-on held [] l s h (opens o) = omega (arith, o .total, o .room)
 
-end-known : (num held : ℕ) (rest : List Shape) → num < 2 ^ 24 → held + wordsToCome rest ≤ 7998 → Known TextRow (WordsFit held) (atEnd num held rest)
+end-known : (num held : ℕ) (rest : List Shape) → num < 2 ^ 24 → RoomToCome held rest → Known TextRow (WordsFit held) (atEnd num held rest)
 unfolding atEnd wordsToCome
 end-known num held (x ∷ rest) hn h = told 25 num 1 (omega arith) hn (omega arith)
 end-known num held [] hn h =
     by-test (Known TextRow (WordsFit held)) (eqb held 0) (refused (answer 21 0 0 0)) (passed []) (λ _. told 21 0 0 (omega arith) (omega arith) (omega arith))
     (λ t. omega (arith, eqb-false held 0 t))
 
-lines-known : (num held : ℕ) (rest : List Shape) (ls : List Line) → num + length ls < 2 ^ 24 → held + wordsToCome rest ≤ 7998 → Known TextRow (WordsFit held) (readLines num held rest ls)
+lines-known : (num held : ℕ) (rest : List Shape) (ls : List Line) → num + length ls < 2 ^ 24 → RoomToCome held rest → Known TextRow (WordsFit held) (readLines num held rest ls)
 unfolding readLines
 lines-known num held rest [] hn h = end-known num held rest (omega arith) h
 lines-known num held rest (l ∷ ls) hn h =
@@ -79,7 +79,7 @@ text-known t =
     by-test (Known TextRow (WordsFit 0)) (ltb 65536 (length t)) (refused (answer 30 0 0 0)) _ (λ _. told 30 0 0 (omega arith) (omega arith) (omega arith))
     (λ u. lines-known 1 0 [] (linesIn t) (omega (arith, lines-most t, ltb-false 65536 (length t) u)) (omega arith))
 
-pub words-room : (t ws : List ℕ) → readText t ≡ passed ws → (1 ≤ length ws) × (length ws ≤ 7998)
+pub words-room : (t ws : List ℕ) → readText t ≡ passed ws → (1 ≤ length ws) × (length ws ≤ mostRecordWords)
 words-room t ws e = let r : WordsFit 0 ws = rw e at (text-known t) in omega arith
 
 -- ---- the answer

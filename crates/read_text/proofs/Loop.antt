@@ -19,7 +19,7 @@ use Rattle.read_cut.specs.Lines.{linesIn}
 use Rattle.read_first_line.proofs.Heads.{put-append}
 use Rattle.units.proofs.Told.{Known}
 use Rattle.read_text.specs.Cases.{TextRow}
-use Rattle.read_text.proofs.Opened.{wordsToCome, Taken, line-known}
+use Rattle.read_text.proofs.Opened.{Taken, line-known, RoomToCome}
 use Rattle.read_text.proofs.Known.{room-on}
 
 -- words that are read in two parts
@@ -56,11 +56,11 @@ module _ (num held : ℕ) (rest : List Shape) (l : List ℕ) (ls : List (List �
       by (refused r) e = cc
 
 -- and there is room for the lines to come, as before it
-pub room-next : (num held : ℕ) (rest : List Shape) (l b b′ : List ℕ) (p : Plan) (n : Words) → num < 2 ^ 24 → held + wordsToCome rest ≤ 7998
-    → standOf b′ (Next p n) ≡ after held b (readLine num held rest l) → n .0 + wordsToCome (toCome p) ≤ 7998
+pub room-next : (num held : ℕ) (rest : List Shape) (l b b′ : List ℕ) (p : Plan) (n : Words) → num < 2 ^ 24 → RoomToCome held rest
+    → standOf b′ (Next p n) ≡ after held b (readLine num held rest l) → RoomToCome (n .0) (toCome p)
 room-next num held rest l b b′ p n hn h e = by (readLine num held rest l) (line-known num hn held l rest h) e
   where
-    by : (v : Verdict Read) → Known TextRow (Taken held rest l) v → standOf b′ (Next p n) ≡ after held b v → n .0 + wordsToCome (toCome p) ≤ 7998
+    by : (v : Verdict Read) → Known TextRow (Taken held rest l) v → standOf b′ (Next p n) ≡ after held b v → RoomToCome (n .0) (toCome p)
     by (passed s) t e =
         let same : _≡_ {A = Stand} (record { rest = toCome p; words = n .0; block = b′ }) (record { rest = s .rest; words = held + length (s .words); block = put held b (s .words) }) = cc in
         rw (ap (λ (x : Stand). x .words) same, ap (λ (x : Stand). x .rest) same) (room-on held rest l s h (t .given))
@@ -72,4 +72,4 @@ pub record Reading (text b₀ b : List ℕ) (row : List ℕ) (rest : List Shape)
   pub length-kept : length b ≡ length b₀
   pub row-long : length row ≡ 20
   pub lines-most : num ≤ at + 1
-  pub room : held + wordsToCome rest ≤ 7998
+  pub room : RoomToCome held rest

@@ -10,7 +10,7 @@ use lib.Dec.{ltb, eqb}
 use lib.ListN.{length, getD, drop, replicate, length-append, length-drop, length-replicate, List·getD-append}
 use Rattle.units.specs.Answers.{answer, passed, refused}
 use Rattle.units.proofs.Verdicts.{or-off}
-use Rattle.words.specs.Words.{word}
+use Rattle.words.specs.Words.{word, mostRecordWords}
 use Rattle.record.specs.declared.Counts.{Counts}
 use Rattle.record.specs.Counts.{countsOf, wordsNeeded, linesNeeded, inRange}
 use Rattle.record.specs.Rules.{CountsOk}
@@ -18,7 +18,7 @@ use Rattle.record.proofs.FourCounts.{range-ok, counts-append}
 use Rattle.line_plan.specs.Plan.{plan, dataPlan}
 use Rattle.units.specs.Units.{Line}
 use Rattle.line_plan.proofs.Plans.{fieldsIn, part-turn, fieldsIn-plan}
-use Rattle.read_columns.specs.Columns.{plainLine, blankAfter, blankLine, columnOf, numbers, zeros}
+use Rattle.read_columns.specs.Columns.{plainLine, blankAfter, blankLine, columnOf, fieldNumbers, zeroFields}
 use Rattle.read_line.proofs.Later.{card-size}
 use Rattle.read_first_line.specs.FirstLine.{Shape, card, fields, Read, gives, Head, cards, counts, countsIn, catalogueFields, headerFields, countFields, prologueFields, dataFields, kindFields, firstFields, cardsRoom, dataRoom, headLine, firstLine}
 use Rattle.read_line.specs.Lines.{rowFields, inState, readLine}
@@ -39,6 +39,10 @@ wide (fields n) = n
 unfoldable pub wordsToCome : List Shape → ℕ
 wordsToCome [] = 0
 wordsToCome (x ∷ rest) = wide x + wordsToCome rest
+
+-- behind the words held, those to come have room in a block
+abbrev pub RoomToCome : ℕ → List Shape → Type 0
+RoomToCome held rest = held + wordsToCome rest ≤ mostRecordWords
 
 cards-to-come : (n : ℕ) → wordsToCome (replicate n card) ≡ 40 * n
 unfolding wordsToCome
@@ -93,25 +97,25 @@ data HeadRead (l : Line) : Head → Type 0 where
   header-read : {ws : List ℕ} → CardsHead 15 3101 l ws → HeadRead l (cards 3002 ws)
   data-read : {ws : List ℕ} → DataHead l ws → HeadRead l (counts ws)
 
-pub data First (l : Line) (s : Read) : Type 0 where
-  catalogue-first : CardsFirst 12 2001 2101 l s → First l s
-  header-first : CardsFirst 15 3002 3101 l s → First l s
-  data-first : DataFirst l s → First l s
+pub data FirstRead (l : Line) (s : Read) : Type 0 where
+  catalogue-first : CardsFirst 12 2001 2101 l s → FirstRead l s
+  header-first : CardsFirst 15 3002 3101 l s → FirstRead l s
+  data-first : DataFirst l s → FirstRead l s
 
 -- a record's first line, with `held` words before it: it tells the words of the record, and there is room for them
 pub record Opens (held : ℕ) (l : Line) (s : Read) : Type 0 where
-  pub first : First l s
+  pub first : FirstRead l s
   pub total : word (s .words) 1 ≡ length (s .words) + wordsToCome (s .rest)
-  pub room : held + word (s .words) 1 ≤ 7998
+  pub room : held + word (s .words) 1 ≤ mostRecordWords
 
 -- a line between records: a blank line, or a first line
-pub data Between (held : ℕ) (l : Line) (s : Read) : Type 0 where
-  skipped : Blanks l → s .words ≡ [] → s .rest ≡ [] → Between held l s
-  opens : Opens held l s → Between held l s
+pub data BetweenRecords (held : ℕ) (l : Line) (s : Read) : Type 0 where
+  skipped : Blanks l → s .words ≡ [] → s .rest ≡ [] → BetweenRecords held l s
+  opens : Opens held l s → BetweenRecords held l s
 
 -- what an accepted line gives, where `rest` was still to come
 abbrev pub Given : ℕ → List Shape → Line → Read → Type 0
-Given held [] l s = Between held l s
+Given held [] l s = BetweenRecords held l s
 Given held (x ∷ rest) l s = (s .rest ≡ rest) × LineSpells x l (s .words)
 
 -- and row 20 passes it
@@ -131,8 +135,8 @@ spells-append : (l : Line) (k : ℕ) (ws vs : List ℕ) → SpellsAll l k ws →
 spells-append l k [] vs h g = rw add-zero at g
 spells-append l k (w ∷ ws) vs h g = let e : k + suc (length ws) ≡ suc k + length ws = omega arith in (h .0, spells-append l (suc k) ws vs (h .1) (rw e at g))
 
-both : (l : Line) (m n : ℕ) (ws vs : List ℕ) → WordsRead l 0 m ws → WordsRead l m n vs → WordsRead l 0 (m + n) (ws ++ vs)
-both l m n ws vs p q =
+words-joined : (l : Line) (m n : ℕ) (ws vs : List ℕ) → WordsRead l 0 m ws → WordsRead l m n vs → WordsRead l 0 (m + n) (ws ++ vs)
+words-joined l m n ws vs p q =
     let e : m ≡ 0 + length ws = omega (arith, p .count) in
     record { count = omega (arith, length-append ws vs, p .count, q .count); spells = spells-append l 0 ws vs (p .spells) (rw e at (q .spells)) }
 
@@ -149,7 +153,7 @@ head-on l r more h m blank =
     let sum : 16 + (min (word r 13) 20 - 16) ≡ min (word r 13) 20 = omega arith in
     let lprol = stays r more 16 size 12 (omega arith) in
     record {
-      read = rw lprol (rw sum at (both l 16 (min (word r 13) 20 - 16) r more (h .read) m));
+      read = rw lprol (rw sum at (words-joined l 16 (min (word r 13) 20 - 16) r more (h .read) m));
       blank = rw lprol blank;
       says = stays r more 16 size 1 (omega arith) ∙ h .says;
       counts = subst (λ c. CountsOk c) (sym (counts-append r more (omega arith))) (h .counts);
@@ -176,28 +180,28 @@ module _ (num : ℕ) (hn : num < 2 ^ 24) where
       catalogue-known : word head 2 ≡ 2101 → Known TextRow (HeadRead l) (catalogueFields num l head)
       unfolding catalogueFields
       catalogue-known e =
-          then-known TextRow (λ _. (k : ℕ) → 12 ≤ k → k < 20 → SpellsZero l k) (HeadRead l) (zeros num l 12 8) _ (zeros-known num hn l 12 8 (omega arith))
+          then-known TextRow (λ _. (k : ℕ) → 12 ≤ k → k < 20 → SpellsZero l k) (HeadRead l) (zeroFields num l 12 8) _ (zeros-known num hn l 12 8 (omega arith))
           (λ _ z. catalogue-read (record { read = read; says = e; zeros = z }))
 
       header-known : word head 2 ≡ 3101 → Known TextRow (HeadRead l) (headerFields num l head)
       unfolding headerFields
       header-known e =
-          then-known TextRow (WordsRead l 12 3) (HeadRead l) (numbers num l 12 3) _ (numbers-known num hn l 12 3 (omega arith))
-          (λ more m. then-known TextRow (λ _. (k : ℕ) → 15 ≤ k → k < 20 → SpellsZero l k) (HeadRead l) (zeros num l 15 5) _ (zeros-known num hn l 15 5 (omega arith))
-          (λ _ z. header-read (record { read = both l 12 3 head more read m; says = stays head more 12 (read .count) 1 (omega arith) ∙ e; zeros = z })))
+          then-known TextRow (WordsRead l 12 3) (HeadRead l) (fieldNumbers num l 12 3) _ (numbers-known num hn l 12 3 (omega arith))
+          (λ more m. then-known TextRow (λ _. (k : ℕ) → 15 ≤ k → k < 20 → SpellsZero l k) (HeadRead l) (zeroFields num l 15 5) _ (zeros-known num hn l 15 5 (omega arith))
+          (λ _ z. header-read (record { read = words-joined l 12 3 head more read m; says = stays head more 12 (read .count) 1 (omega arith) ∙ e; zeros = z })))
 
       count-fields-known : word head 2 ≡ 1101 → Known TextRow (CountsHead l) (countFields num l head)
       unfolding countFields
       count-fields-known e =
-          then-known TextRow (WordsRead l 12 4) (CountsHead l) (numbers num l 12 4) _ (numbers-known num hn l 12 4 (omega arith))
+          then-known TextRow (WordsRead l 12 4) (CountsHead l) (fieldNumbers num l 12 4) _ (numbers-known num hn l 12 4 (omega arith))
           (λ more m. known-as TextRow (λ q. (q ≡ head ++ more) × CountsOk (countsOf (head ++ more))) (CountsHead l) (countsIn num (head ++ more)) (counts-known (head ++ more))
-          (λ q c. rw (c .0) (record { read = both l 12 4 head more read m; says = stays head more 12 (read .count) 1 (omega arith) ∙ e; counts = c .1 })))
+          (λ q c. rw (c .0) (record { read = words-joined l 12 4 head more read m; says = stays head more 12 (read .count) 1 (omega arith) ∙ e; counts = c .1 })))
 
     prologue-known : Readable l → (r : List ℕ) → CountsHead l r → Known TextRow (HeadRead l) (prologueFields num l r)
     unfolding prologueFields
     prologue-known e r h =
         let used = min (word r 13) 20 in
-        then-known TextRow (WordsRead l 16 (used - 16)) (HeadRead l) (numbers num l 16 (used - 16)) _ (numbers-known num hn l 16 (used - 16) (omega arith))
+        then-known TextRow (WordsRead l 16 (used - 16)) (HeadRead l) (fieldNumbers num l 16 (used - 16)) _ (numbers-known num hn l 16 (used - 16) (omega arith))
         (λ more m. then-known TextRow (λ _. Blanks (drop (6 * used) l)) (HeadRead l) (blankAfter num l (6 * used)) _ (blank-known num hn l (6 * used) e (omega arith))
         (λ _ b. data-read (head-on l r more h m b)))
 
@@ -212,36 +216,36 @@ module _ (num : ℕ) (hn : num < 2 ^ 24) where
 
     first-fields-known : Readable l → Known TextRow (HeadRead l) (firstFields num l)
     unfolding firstFields
-    first-fields-known e = then-known TextRow (WordsRead l 0 12) (HeadRead l) (numbers num l 0 12) _ (numbers-known num hn l 0 12 (omega arith)) (λ head read. kind-known e head read)
+    first-fields-known e = then-known TextRow (WordsRead l 0 12) (HeadRead l) (fieldNumbers num l 0 12) _ (numbers-known num hn l 0 12 (omega arith)) (λ head read. kind-known e head read)
 
   -- ---- its counts
 
   module _ (held : ℕ) (l : Line) where
     -- there is room, and the stated line count may stand
     abbrev CardsFit : ℕ → Unit {0} → Type 0
-    CardsFit lines _ = (1 ≤ lines) × (held + 40 * lines ≤ 7998)
+    CardsFit lines _ = (1 ≤ lines) × (held + 40 * lines ≤ mostRecordWords)
 
     cards-room-known : (lines : ℕ) → Known TextRow (CardsFit lines) (cardsRoom num held lines)
     unfolding cardsRoom
     cards-room-known lines =
         by-test (Known TextRow (CardsFit lines)) (ltb lines 1 || ltb 199 lines) (refused (answer 24 num 1 0)) _ (λ _. told 24 num 1 (omega arith) hn (omega arith))
-        (λ t. by-test (Known TextRow (CardsFit lines)) (ltb 7998 (held + 40 * lines)) (refused (answer 28 num 1 0)) _ (λ _. told 28 num 1 (omega arith) hn (omega arith))
-        (λ u. (ltb-false lines 1 (or-off (ltb lines 1) _ t .0), ltb-false 7998 (held + 40 * lines) u)))
+        (λ t. by-test (Known TextRow (CardsFit lines)) (ltb mostRecordWords (held + 40 * lines)) (refused (answer 28 num 1 0)) _ (λ _. told 28 num 1 (omega arith) hn (omega arith))
+        (λ u. (ltb-false lines 1 (or-off (ltb lines 1) _ t .0), ltb-false mostRecordWords (held + 40 * lines) u)))
 
     abbrev DataFits : ℕ → Counts → Unit {0} → Type 0
-    DataFits lines c _ = (lines ≡ linesNeeded c) × (held + wordsNeeded c ≤ 7998)
+    DataFits lines c _ = (lines ≡ linesNeeded c) × (held + wordsNeeded c ≤ mostRecordWords)
 
     data-room-known : (lines : ℕ) (c : Counts) → Known TextRow (DataFits lines c) (dataRoom num held lines c)
     unfolding dataRoom
     data-room-known lines c =
-        by-test (Known TextRow (DataFits lines c)) (ltb 7998 (held + wordsNeeded c)) (refused (answer 28 num 1 0)) _ (λ _. told 28 num 1 (omega arith) hn (omega arith))
+        by-test (Known TextRow (DataFits lines c)) (ltb mostRecordWords (held + wordsNeeded c)) (refused (answer 28 num 1 0)) _ (λ _. told 28 num 1 (omega arith) hn (omega arith))
         (λ t. by-test (Known TextRow (DataFits lines c)) (not (eqb lines (linesNeeded c))) (refused (answer 24 num 1 0)) _ (λ _. told 24 num 1 (omega arith) hn (omega arith))
-        (λ u. (eqb-true lines (linesNeeded c) (not-false _ u), ltb-false 7998 (held + wordsNeeded c) t)))
+        (λ u. (eqb-true lines (linesNeeded c) (not-false _ u), ltb-false mostRecordWords (held + wordsNeeded c) t)))
 
     -- the line of a Catalogue or a Header with n fields that may be free
     module _ (n kind shows : ℕ) (low : 2 ≤ n) (high : n ≤ 40) (head : List ℕ) (is : CardsHead n shows l head)
-        (of : (s : Read) → CardsFirst n kind shows l s → First l s) where
-      cards-open : 1 ≤ word head 1 → held + 40 * word head 1 ≤ 7998
+        (of : (s : Read) → CardsFirst n kind shows l s → FirstRead l s) where
+      cards-open : 1 ≤ word head 1 → held + 40 * word head 1 ≤ mostRecordWords
           → Opens held l (record { words = 40 * word head 1 ∷ (kind ∷ drop 2 head) ++ replicate (40 - length head) 0; rest = replicate (word head 1 - 1) card })
       cards-open least room =
           let size = is .read .count in
@@ -259,7 +263,7 @@ module _ (num : ℕ) (hn : num < 2 ^ 24) where
 
     -- the line of a Data record
     module _ (head : List ℕ) (is : DataHead l head) where
-      data-open : word head 1 ≡ linesNeeded (countsOf head) → held + wordsNeeded (countsOf head) ≤ 7998
+      data-open : word head 1 ≡ linesNeeded (countsOf head) → held + wordsNeeded (countsOf head) ≤ mostRecordWords
           → Opens held l (record { words = wordsNeeded (countsOf head) ∷ (1002 ∷ drop 2 head); rest = map fields (drop 1 (plan (countsOf head))) })
       unfolding fieldsIn
       data-open lines room =
@@ -290,24 +294,24 @@ module _ (num : ℕ) (hn : num < 2 ^ 24) where
     unfolding firstLine
     first-known e = then-known TextRow (HeadRead l) (Opens held l) (firstFields num l) _ (first-fields-known l e) (λ h r. head-known h r)
 
-    row-known : Readable l → (n : ℕ) → n ≤ 7998 → Known TextRow (LineSpells (fields n) l) (rowFields num l n)
+    row-known : Readable l → (n : ℕ) → n ≤ mostRecordWords → Known TextRow (LineSpells (fields n) l) (rowFields num l n)
     unfolding rowFields
     row-known e n h =
-        then-known TextRow (WordsRead l 0 n) (LineSpells (fields n) l) (numbers num l 0 n) _ (numbers-known num hn l 0 n (omega arith))
+        then-known TextRow (WordsRead l 0 n) (LineSpells (fields n) l) (fieldNumbers num l 0 n) _ (numbers-known num hn l 0 n (omega arith))
         (λ ws r. then-known TextRow (λ _. Blanks (drop (6 * n) l)) (LineSpells (fields n) l) (blankAfter num l (6 * n)) _ (blank-known num hn l (6 * n) e (omega arith))
         (λ _ b. (r .count, r .spells, b)))
 
-    state-known : (rest : List Shape) → held + wordsToCome rest ≤ 7998 → Readable l → Known TextRow (Given held rest l) (inState num held rest l)
+    state-known : (rest : List Shape) → RoomToCome held rest → Readable l → Known TextRow (Given held rest l) (inState num held rest l)
     unfolding inState wordsToCome
     state-known (card ∷ rest) room e =
         then-known TextRow (λ _. Blanks (drop 80 l)) (Given held (card ∷ rest) l) (blankAfter num l 80) _ (blank-known num hn l 80 e (omega arith)) (λ _ b. (refl, (refl, b)))
     state-known (fields n ∷ rest) room e =
         then-known TextRow (LineSpells (fields n) l) (Given held (fields n ∷ rest) l) (rowFields num l n) _ (row-known e n (omega arith)) (λ ws r. (refl, r))
     state-known [] room e =
-        by-test (Known TextRow (Between held l)) (blankLine l) (gives [] []) (firstLine num held l) (λ t. skipped (all-blank l (omega (arith, leb-true (length l) _ t))) refl refl)
-        (λ _. known-as TextRow (Opens held l) (Between held l) (firstLine num held l) (first-known e) (λ s o. opens o))
+        by-test (Known TextRow (BetweenRecords held l)) (blankLine l) (gives [] []) (firstLine num held l) (λ t. skipped (all-blank l (omega (arith, leb-true (length l) _ t))) refl refl)
+        (λ _. known-as TextRow (Opens held l) (BetweenRecords held l) (firstLine num held l) (first-known e) (λ s o. opens o))
 
-    pub line-known : (rest : List Shape) → held + wordsToCome rest ≤ 7998 → Known TextRow (Taken held rest l) (readLine num held rest l)
+    pub line-known : (rest : List Shape) → RoomToCome held rest → Known TextRow (Taken held rest l) (readLine num held rest l)
     unfolding readLine
     line-known rest room =
         then-known TextRow (λ _. Readable l) (Taken held rest l) (plainLine num l) _ (plain-known num l hn)

@@ -47,9 +47,9 @@ has-words t n e = by (readText t) refl e
     by (refused r) is same = absurd (never-passed (sym same))
 
 -- what the loop finds is the count of words, whatever it writes
-pub counted : (t b b′ : List ℕ) (r : Content) → storedOf b′ r ≡ stored 0 b (readText t) → contentOf r ≡ wordsIn t
+pub words-counted : (t b b′ : List ℕ) (r : Content) → storedOf b′ r ≡ stored 0 b (readText t) → contentOf r ≡ wordsIn t
 unfolding wordsIn
-counted t b b′ r e = by r (readText t) e
+words-counted t b b′ r e = by r (readText t) e
   where
     by : (c : Content) (v : Verdict (List ℕ)) → storedOf b′ c ≡ stored 0 b v → contentOf c ≡ onward v (λ ws. passed (length ws))
     by (Records n) (passed ws) same =
@@ -65,11 +65,11 @@ unfolding readText
 not-long t n a = ltb-false 65536 (length t) (else-passed (ltb 65536 (length t)) (answer 30 0 0 0) _ (a .records) (a .is) .0)
 
 -- the words that are put behind the length word
-pub words-put : (t b b′ : List ℕ) (n : ℕ) (r : Content) (a : HasWords t n) → storedOf b′ r ≡ stored 0 b (readText t) → b′ ≡ put 0 b (a .records)
-words-put t b b′ n (Records m) a e =
+pub records-put : (t b b′ : List ℕ) (n : ℕ) (r : Content) (a : HasWords t n) → storedOf b′ r ≡ stored 0 b (readText t) → b′ ≡ put 0 b (a .records)
+records-put t b b′ n (Records m) a e =
     let k : _≡_ {A = Stored} (record { words = m .0; block = b′ }) (record { words = 0 + length (a .records); block = put 0 b (a .records) }) = let s : storedOf b′ (Records m) ≡ stored 0 b (passed (a .records)) = rw (a .is) at e in cc in
     ap (λ (x : Stored). x .block) k
-words-put t b b′ n (Flawed f) a e = let s : storedOf b′ (Flawed f) ≡ stored 0 b (passed (a .records)) = rw (a .is) at e in absurd (never-passed s)
+records-put t b b′ n (Flawed f) a e = let s : storedOf b′ (Flawed f) ≡ stored 0 b (passed (a .records)) = rw (a .is) at e in absurd (never-passed s)
 
 -- the block that an accepted text gives
 pub block-is : (t out : List ℕ) (n : ℕ) (a : HasWords t n) → toBlock t out ≡ written out (passed (bytesOf (framed (a .records))))

@@ -64,7 +64,7 @@ fn passing_in(rest: &[u8], from: Words, upto: Words, least: u16, most: u16) -> W
     requires { ⌜ (from .0 ≤ upto .0) × (upto .0 ≤ length (wordsOf (now rest))) ⌝ }
     ensures { λ r. ⌜ r .0 ≡ passing (wordWithin least most) (slice (from .0) (upto .0) (wordsOf (now (rest .entry)))) ⌝ }
 {
-    words::first_outside(words::part(rest, from, upto), least, most)
+    words::first_outside(words::span(rest, from, upto), least, most)
 }
 
 // The content of a Catalogue or a Header of `total` words: zeros from word `first` to 40, then cards.

@@ -16,9 +16,9 @@ use Rattle.sheet.specs.Rules.{IsEntry, IsSheet, Holds}
 use Rattle.sheet.proofs.Sheets.{numbersOf, length-joined, length-entries}
 
 -- numbers are put among the numbers
-numbers-put : (v c : ℕ) (ws : List ℕ) (i : ℕ) (xs : List ℕ) → sets (sheetWith v c ws) (8 + bytesOfWords i) (bytesOf xs) ≡ sheetWith v c (sets ws i xs)
+put-among : (v c : ℕ) (ws : List ℕ) (i : ℕ) (xs : List ℕ) → sets (sheetWith v c ws) (8 + bytesOfWords i) (bytesOf xs) ≡ sheetWith v c (sets ws i xs)
 unfolding sheetWith bytesOf
-numbers-put v c ws i xs =
+put-among v c ws i xs =
     let front = take 8 (sheetWith v c ws) in
     sets-right (bytesOf xs) front (bytesOf ws) (bytesOfWords i) ∙ ap (λ l. front ++ l) (bytes-sets ws i xs)
 
@@ -55,7 +55,7 @@ place-put y es each s c c′ old new e h =
     let v = y .version in
     let ws = joined es ++ (old ++ zerosPast y es) in
     let i = length es * y .words in
-    rw (e, numbers-put v c ws i new, count-put v c c′ (sets ws i new), ← (length-joined y es each)) (ap (sheetWith v c′) (sets-part (joined es) old new (zerosPast y es) h))
+    rw (e, put-among v c ws i new, count-put v c c′ (sets ws i new), ← (length-joined y es each)) (ap (sheetWith v c′) (sets-part (joined es) old new (zerosPast y es) h))
 
 -- an entry is put behind those that stand, and the count
 pub entry-added : {y : Layout} {s : List ℕ} {count : ℕ} {s₁ s₂ : List ℕ} (e : Entry) → Holds y s count → count < y .limit → length e ≡ y .words

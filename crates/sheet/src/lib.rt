@@ -74,7 +74,7 @@ fn more_stands(sheet: &[u8], count: u16) -> bool
     if LIMIT <= count {
         return false;
     }
-    let rest = words::part(sheet, before_entry(count), before_entry(LIMIT));
+    let rest = words::span(sheet, before_entry(count), before_entry(LIMIT));
     let clear = words::first_outside(rest, 0, 0).0;
     let all = words::count(rest).0;
     clear != all

@@ -59,8 +59,8 @@ slice-sets l vs i t e h =
     ∙ drop-at (take i l) vs i s
 
 -- record words put behind the place of the length word are the words there
-words-put : (b ws : List ℕ) (n : ℕ) → n ≡ length ws → (n + 2) * 2 ≤ length b → words (wordsOf (sets b 2 (bytesOf ws))) 2 (n + 1) ≡ ws
-words-put b ws n e h =
+behind-length-put : (b ws : List ℕ) (n : ℕ) → n ≡ length ws → (n + 2) * 2 ≤ length b → words (wordsOf (sets b 2 (bytesOf ws))) 2 (n + 1) ≡ ws
+behind-length-put b ws n e h =
     let l = length-bytesOf ws in
     sym (words-slice 1 (n + 1) (sets b 2 (bytesOf ws))) ∙ ap wordsOf (slice-sets b (bytesOf ws) 2 ((n + 1) * 2) (omega arith) (omega arith)) ∙ words-bytes ws
 
@@ -77,5 +77,5 @@ sealed-put b ws n e h p q =
     let size : bytesOfWords (n + 2) ≡ 0 + length (bytesOf (framed ws)) = omega (arith, length-framed ws) in
     record {
       ends = size;
-      bytes = q ∙ rw (p, words-put b ws n e h, drop-sets ((n + 2) * 2) 2 b (bytesOf ws) (omega arith), size) (sym (sets-eq (bytesOf (framed ws)) b 0 (omega arith)));
+      bytes = q ∙ rw (p, behind-length-put b ws n e h, drop-sets ((n + 2) * 2) 2 b (bytesOf ws) (omega arith), size) (sym (sets-eq (bytesOf (framed ws)) b 0 (omega arith)));
     }

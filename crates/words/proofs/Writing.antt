@@ -63,8 +63,8 @@ module _ (o : List ℕ) (at : ℕ) {whole : List ℕ} (s r : List ℕ) (e : whol
     both-put q = done (on (on start s r e p) r [] (sym (append-nil r)) q) refl
 
 -- one byte is stored
-pub stored : (out : List ℕ) (to b : ℕ) → Put out to (b ∷ []) (set out to b) (to + 1)
-stored out to b = record { ends = refl; bytes = refl }
+pub byte-put : (out : List ℕ) (to b : ℕ) → Put out to (b ∷ []) (set out to b) (to + 1)
+byte-put out to b = record { ends = refl; bytes = refl }
 
 -- the outcome of a conversion: too short an output, or all of it written
 pub too-short : (out bytes : List ℕ) (k : ℕ) → k ≡ length bytes → length out < k → leaves (answer 29 k 0 0) out ≡ written out (passed bytes)

@@ -53,7 +53,7 @@ pub fn word_at(part: &[u8], at: Words) -> u16
 }
 
 // The words after `from` up to `upto`, as a part of the bytes.
-pub fn part(whole: &[u8], from: Words, upto: Words) -> &[u8]
+pub fn span(whole: &[u8], from: Words, upto: Words) -> &[u8]
     requires { ⌜ (from .0 ≤ upto .0) × (upto .0 ≤ length (wordsOf (now whole))) ⌝ }
     ensures { λ r. ⌜ now r ≡ slice (bytesOfWords (from .0)) (bytesOfWords (upto .0)) (now (whole .entry)) ⌝ }
 {
@@ -140,6 +140,6 @@ pub fn seal(block: &mut [u8], records: Words)
     let last = n + 1;
     let all = n + 2;
     put_word(block, Words(0), units::saying_words(Words(all)));
-    let checksum = exclusive_or(part(block, Words(0), Words(last)));
+    let checksum = exclusive_or(span(block, Words(0), Words(last)));
     put_word(block, Words(last), checksum);
 }

@@ -132,8 +132,8 @@ module _ (r : List ℕ) where
         ap (λ ls. length (ended ls)) data-lines ∙ omega (arith, data-size, length-text (dataPlan r) (shownWords r) (omega arith)) in
         record { lines = l; bytes = t; count-most = omega arith; size-most = omega (arith, data-size) }
 
-pub sized : (r : List ℕ) → RecordOk r → Sized r
-sized r h = by (h .kind)
+pub record-sized : (r : List ℕ) → RecordOk r → Sized r
+record-sized r h = by (h .kind)
   where
     by : KindOk r → Sized r
     by (catalogue e c) = cards-sized r (ap (λ k. eqb k 1002) e) 13 c
@@ -141,19 +141,19 @@ sized r h = by (h .kind)
     by (dataRecord e d) = data-sized r (ap (λ k. eqb k 1002) e) d
 
 -- a block's text has fewer than seven bytes for each of its record words
-pub text-most : (rs : List (List ℕ)) → All RecordOk rs → 1 ≤ length rs → length (textOf rs) + 15 ≤ 7 * length (joined rs)
+pub text-size-most : (rs : List (List ℕ)) → All RecordOk rs → 1 ≤ length rs → length (textOf rs) + 15 ≤ 7 * length (joined rs)
 unfolding textOf joined
-text-most [] h s = absurd (omega arith)
-text-most (r ∷ []) h s =
-    let z = sized r (h .0) in
+text-size-most [] h s = absurd (omega arith)
+text-size-most (r ∷ []) h s =
+    let z = record-sized r (h .0) in
     omega (arith, z .bytes, z .size-most, length-append (ended (linesOf r)) [], length-append r [])
-text-most (r ∷ (q ∷ rs)) h s =
-    let z = sized r (h .0) in
+text-size-most (r ∷ (q ∷ rs)) h s =
+    let z = record-sized r (h .0) in
     omega (
       arith,
       z .bytes,
       z .size-most,
-      text-most (q ∷ rs) (h .1) (omega arith),
+      text-size-most (q ∷ rs) (h .1) (omega arith),
       length-append (ended (linesOf r)) (textOf (q ∷ rs)),
       length-append r (joined (q ∷ rs)),
     )
@@ -194,4 +194,4 @@ is-cards r h ne = by (h .kind)
 pub text-bound : (b : List ℕ) → Below 256 b → Accepted b → length (textOf (recordsOf b)) ≤ 55971
 text-bound b h a =
     let g = only-good b (a .count) h (a .is) .0 in
-    omega (arith, text-most (recordsOf b) (g .each) (g .some), g .most)
+    omega (arith, text-size-most (recordsOf b) (g .each) (g .some), g .most)

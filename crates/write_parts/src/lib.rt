@@ -97,7 +97,7 @@ pub fn write_cards(whole: &[u8], from: Words, cards: Lines, out: &mut [u8], at: 
     while 0 < left {
         let next = place + 40;
         let end = words::write_bytes(
-            words::part(whole, Words(place), Words(next)),
+            words::span(whole, Words(place), Words(next)),
             out,
             Bytes(to),
         ).0;

@@ -15,6 +15,6 @@ find-value-spec =
     (λ c κs. tt) (λ c. c .match .keys1) (λ c. c .match .keys2)
     (λ c. omega (arith, it c))
     (λ c κs. omega (arith, it c))
-    (λ c κs. (part-ok _ _ (it (c .before)) (c .part .ensures), omega (arith, it (c .before))))
+    (λ c κs. (part-ok _ _ (it (c .before)) (c .span .ensures), omega (arith, it (c .before))))
     (λ c. search no-record)
-    (λ c. c .value-in .ensures ∙ part-value _ _ (it (c .before .before)) (c .before .part .ensures) _ refl _))
+    (λ c. c .value-in .ensures ∙ part-value _ _ (it (c .before .before)) (c .before .span .ensures) _ refl _))

@@ -8,4 +8,4 @@ numbers-spec =
     (λ c. c .match .keys1) (λ c κs. tt)
     (λ c. c .match .keys2) (λ c κs. tt)
     (λ c. rw (c .before .before .a .given .1) (c .row .ensures))
-    (λ c. rw (c .before .before .a2 .given .1) (c .refusal-numbers .ensures)))
+    (λ c. rw (c .before .before .a2 .given .1) (c .objection-numbers .ensures)))

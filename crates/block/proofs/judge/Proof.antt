@@ -39,10 +39,10 @@ stated-is c = sym (c .words-said .ensures .0 ∙ c .before .word-at .ensures)
 
 computed-is : (c : tie.After-exclusive-or) → xorAll (take (count-before-exclusive-or c .count .result .0 - 1) (wordsOf (now (start-before-exclusive-or c .args .block)))) ≡ c .exclusive-or .result
 computed-is c =
-    sym (c .exclusive-or .ensures ∙ ap (λ l. xorAll (wordsOf l)) (c .before .part .ensures) ∙ ap xorAll (words-slice 0 (count-before-exclusive-or c .count .result .0 - 1) (now (start-before-exclusive-or c .args .block))))
+    sym (c .exclusive-or .ensures ∙ ap (λ l. xorAll (wordsOf l)) (c .before .span .ensures) ∙ ap xorAll (words-slice 0 (count-before-exclusive-or c .count .result .0 - 1) (now (start-before-exclusive-or c .args .block))))
 
-inner-is : (c : tie.After-part2) → wordsOf (now (c .part2 .result)) ≡ slice 1 (count-before-exclusive-or (c .before .before) .count .result .0 - 1) (wordsOf (now (start-before-exclusive-or (c .before .before) .args .block)))
-inner-is c = ap wordsOf (c .part2 .ensures) ∙ words-slice 1 (count-before-exclusive-or (c .before .before) .count .result .0 - 1) (now (start-before-exclusive-or (c .before .before) .args .block))
+inner-is : (c : tie.After-span2) → wordsOf (now (c .span2 .result)) ≡ slice 1 (count-before-exclusive-or (c .before .before) .count .result .0 - 1) (wordsOf (now (start-before-exclusive-or (c .before .before) .args .block)))
+inner-is c = ap wordsOf (c .span2 .ensures) ∙ words-slice 1 (count-before-exclusive-or (c .before .before) .count .result .0 - 1) (now (start-before-exclusive-or (c .before .before) .args .block))
 
 returns : tie.Need-returns
 unfolding judged
@@ -71,8 +71,8 @@ returns-3 : tie.Need-returns-3
 unfolding judged
 returns-3 c = simp (off (count-before-exclusive-or (c .before) .before), stated-is (c .before .before .before .before .before), ← count-before-exclusive-or (c .before) .count .ensures, eq-eqb _ _ (c .before .before .before .before .if2 .left), ← c .before .before .before .word-at2 .ensures, computed-is (c .before), ne-eqb _ _ (c .if3 .taken))
 
-part-requires-2 : tie.Need-part-requires-2
-part-requires-2 c κs = let s = sized (count-before-exclusive-or (c .before)) in (omega arith, omega arith)
+span-requires-2 : tie.Need-span-requires-2
+span-requires-2 c κs = let s = sized (count-before-exclusive-or (c .before)) in (omega arith, omega arith)
 
 judge-records-requires : tie.Need-judge-records-requires
 judge-records-requires c κs = let s = sized (count-before-exclusive-or (c .before .before)) in omega (arith, ap length (inner-is c), length-slice 1 (count-before-exclusive-or (c .before .before) .count .result .0 - 1) (wordsOf (now (start-before-exclusive-or (c .before .before) .args .block))) (omega arith))
@@ -96,6 +96,6 @@ judge-spec =
     (λ c κs. search needs) (λ c κs. search needs)
     cast-bits
     returns-3
-    part-requires-2
+    span-requires-2
     judge-records-requires
     returns-4)

@@ -19,14 +19,14 @@ abbrev μ-loop : tie.MeasureT-loop
 onward : (c : tie.After-size Inv-loop μ-loop) → let k = c .size .given .0 .0 .0 in let l = c .before .before .before .before .before in
     (16 ≤ k) × Judging (now (l .before .before .before .args .inner)) (l .before .count .result .0) (l .loop .at + k) (l .loop .number + 1)
 onward c = let l = c .before .before .before .before .before in
-    judged-on (l .loop .inv) (l .before .count .ensures) (omega arith) (c .before .before .before .part .ensures) (c .before .before .judge-record .ensures) (ap checkedOf (c .size .given .1))
+    judged-on (l .loop .inv) (l .before .count .ensures) (omega arith) (c .before .before .before .span .ensures) (c .before .before .judge-record .ensures) (ap checkedOf (c .size .given .1))
 
 loop-holds : tie.Need-loop-holds Inv-loop μ-loop
 loop-holds c = record { some = omega arith; few = omega arith; within = omega arith; same = refl }
 
 returns : tie.Need-returns Inv-loop μ-loop
 returns c = let l = c .before .before .before .before .before .before in
-    judged-stop (l .loop .inv) (l .before .count .ensures) (omega arith) (c .before .before .before .before .part .ensures) (c .before .before .before .judge-record .ensures) (ap checkedOf (c .before .f .given .1))
+    judged-stop (l .loop .inv) (l .before .count .ensures) (omega arith) (c .before .before .before .before .span .ensures) (c .before .before .before .judge-record .ensures) (ap checkedOf (c .before .f .given .1))
 
 add-at : tie.Need-add-at Inv-loop μ-loop
 add-at c = omega (arith, onward (c .before), length-wordsOf (now (c .before .before .before .before .before .before .before .before .before .args .inner)))

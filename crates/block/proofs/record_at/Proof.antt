@@ -7,7 +7,7 @@ use Rattle.words.specs.Words.{wordsOf, bytesOf}
 use Rattle.words.proofs.Laws.{length-wordsOf, bytes-slice, all-below}
 use Rattle.block.specs.declared.Place.the-variants.{Record}
 use Rattle.block.specs.Steps.{stepOf, wordsAt}
-use Rattle.block.proofs.Steps.{Found, step-found}
+use Rattle.block.proofs.Steps.{FoundBefore, step-found}
 use Rattle.block.proofs.record_at.Statement.{statement}
 use Rattle.block.proofs.record_at.Tie as tie
 
@@ -17,7 +17,7 @@ stands : (c : tie.After-place) → let s = c .before .before .before .before in 
 stands c = sym (c .before .before .step .ensures) ∙ c .place .given .1
 
 found : (c : tie.After-place) → let s = c .before .before .before .before in let p = c .place .given .0 in
-    Found (wordsOf (now (s .args .block))) (s .args .at .0) (p .0 .0) (p .1 .0 .0)
+    FoundBefore (wordsOf (now (s .args .block))) (s .args .at .0) (p .0 .0) (p .1 .0 .0)
 found c = step-found _ _ _ _ (stands c)
 
 returns : tie.Need-returns
@@ -27,14 +27,14 @@ returns c = rw (sym (c .before .before .before .step .ensures) ∙ c .before .en
 add-end : tie.Need-add-end
 add-end c = omega (arith, found (c .before .before .before), length-wordsOf (now (c .before .before .before .before .before .before .before .args .block)))
 
-part-requires : tie.Need-part-requires
-part-requires c κs = omega (arith, found (c .before .before .before))
+span-requires : tie.Need-span-requires
+span-requires c κs = omega (arith, found (c .before .before .before))
 
 returns-2 : tie.Need-returns-2
 returns-2 c = let b = now (c .before .before .before .before .before .before .before .before .args .block) in
     let found = found (c .before .before .before .before) in
     let p = c .before .before .before .before .place .given .0 in
-    c .part .ensures
+    c .span .ensures
     ∙ bytes-slice (p .0 .0) (p .0 .0 + p .1 .0 .0) b (omega arith) (all-below 256 b (λ i. omega (arith, c .before .before .before .before .before .before .before .shared-slice-known .given i)))
     ∙ ap (λ p. bytesOf (wordsAt (wordsOf b) p)) (sym (stands (c .before .before .before .before)))
 
@@ -45,5 +45,5 @@ record-at-spec =
     (λ c κs. search needs) (λ c. search needs) (λ c. search needs) (λ c. search needs)
     returns
     add-end
-    part-requires
+    span-requires
     returns-2)

@@ -41,5 +41,5 @@ print-listing-spec =
     (λ c κs. (record { count = _; is = accepted (c .before) }, when-accepted (c .before) .room))
     (λ c. search needs) (λ c κs. search needs)
     (λ c κs. when-refused (c .before) .room)
-    (λ c. search needs) (λ c. when-accepted (c .before .before .before .before) .printed (c .before .before .write-rows .ensures))
+    (λ c. search needs) (λ c. when-accepted (c .before .before .before .before) .printed (c .before .before .write-listing .ensures))
     (λ c. search needs) (λ c. when-refused (c .before .before .before .before) .printed (c .before .before .write-refusal .ensures)))

@@ -7,7 +7,7 @@ use denote.Ref.{now}
 use Rattle.words.specs.Words.{wordsOf}
 use Rattle.words.proofs.Writing.{Going, start, fits, on, done}
 use Rattle.block.proofs.Exact.{ok-long}
-use Rattle.write_lines.proofs.Sizes.{sized}
+use Rattle.write_lines.proofs.Sizes.{record-sized}
 use Rattle.report.specs.Decimal.{decimalOf, spaced}
 use Rattle.printed.specs.Listing.{rowOf}
 use Rattle.printed.proofs.Rows.{ending, row-pieces}
@@ -55,7 +55,7 @@ line-count-requires : tie.Need-line-count-requires
 line-count-requires c κs = long (c .before .before .before .before .before .before)
 
 cast-lines : tie.Need-cast-lines
-cast-lines c = omega (arith, c .before .line-count .ensures, sized (ws (start-before-line-count (c .before))) (start-before-line-count (c .before) .pre .1) .count-most)
+cast-lines c = omega (arith, c .before .line-count .ensures, record-sized (ws (start-before-line-count (c .before))) (start-before-line-count (c .before) .pre .1) .count-most)
 
 word-at-requires-2 : tie.Need-word-at-requires-2
 word-at-requires-2 c κs = omega (arith, long (start-before-line-count (c .before)))

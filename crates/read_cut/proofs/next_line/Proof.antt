@@ -16,7 +16,7 @@ abbrev μ-loop : tie.MeasureT-loop
 μ-loop text first i₀ plain i = length text - i
 
 loop-holds : tie.Need-loop-holds Inv-loop μ-loop
-loop-holds c = let s = c .before .before in rw (c .plain-to .ensures) (sought-plain (now (s .args .text)) (s .args .at .0) (omega (arith, s .pre)))
+loop-holds c = let s = c .before .before in rw (c .plain-end .ensures) (sought-plain (now (s .args .text)) (s .args .at .0) (omega (arith, s .pre)))
 
 returns : tie.Need-returns Inv-loop μ-loop
 returns c = let l = c .before .before .before in let a = l .before .before .before .args in

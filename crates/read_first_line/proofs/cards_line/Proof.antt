@@ -1,10 +1,10 @@
 use Rattle.read_first_line.specs.FirstLine.{cardsRoom}
-use Rattle.read_columns.specs.Cases.{checkedOf}
+use Rattle.read_columns.specs.Cases.{testedOf}
 use Rattle.words.specs.Words.{word}
 use lib.ListN.{take}
 use lib.Seq.{getD-take}
 use mathlib.Core.Path.{_≡_, sym, ap, _∙_}
-use Rattle.read_first_line.proofs.Steps.{told, flaw-ends, good-goes}
+use Rattle.read_first_line.proofs.Steps.{said-by, flaw-ends, good-goes}
 use Rattle.read_first_line.proofs.Heads.{cards-most}
 use denote.Ref.{now}
 use native.Mathlib.Omega.{arith}
@@ -14,12 +14,12 @@ use Rattle.read_first_line.proofs.cards_line.Tie as tie
 
 -- the first field of those that count
 said : (c : tie.After-cards-room) → let a = c .before .before .before .before .args in
-    checkedOf tt (c .cards-room .result) ≡ cardsRoom (a .num .0) (a .held .0) (word (take (a .used .0) (now (a .row))) 1)
+    testedOf tt (c .cards-room .result) ≡ cardsRoom (a .num .0) (a .held .0) (word (take (a .used .0) (now (a .row))) 1)
 said c = let s = c .before .before .before .before in
     c .cards-room .ensures ∙ ap (cardsRoom _ _) (sym (getD-take (s .args .used .0) (now (s .args .row)) 0 0 (omega (arith, s .pre .0))))
 
 put-cards-requires : tie.Need-put-cards-requires
-put-cards-requires c κs = let r = c .before .before .before in let p = r .before .before .before .before .pre in let m = cards-most _ _ _ (told tt (c .before .enum-told .given .1) (r .cards-room .ensures)) in
+put-cards-requires c κs = let r = c .before .before .before in let p = r .before .before .before .before .pre in let m = cards-most _ _ _ (said-by tt (c .before .enum-told .given .1) (r .cards-room .ensures)) in
     (p .0, p .1, p .2, m .0, m .1, p .3)
 
 returns : tie.Need-returns

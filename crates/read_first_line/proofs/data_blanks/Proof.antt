@@ -1,5 +1,5 @@
 use Rattle.read_first_line.proofs.Steps.{flaw-stops, good-passes}
-use Rattle.read_columns.specs.Cases.{checkedOf}
+use Rattle.read_columns.specs.Cases.{testedOf}
 use Rattle.read_columns.specs.Columns.{blankAfter}
 use denote.Ref.{now}
 use lib.ListN.{getD}
@@ -11,7 +11,7 @@ use Rattle.read_first_line.proofs.data_blanks.Tie as tie
 
 -- the columns of the fields that count
 said : (c : tie.After-blank-after) → let a = c .before .before .before .before .before .before .before .args in
-    checkedOf tt (c .blank-after .result) ≡ blankAfter (a .num .0) (now (a .line)) (6 * min (getD (now (a .row)) 12 0) 20)
+    testedOf tt (c .blank-after .result) ≡ blankAfter (a .num .0) (now (a .line)) (6 * min (getD (now (a .row)) 12 0) 20)
 said c = let o = c .before .before in
     c .blank-after .ensures ∙ ap (blankAfter _ _) (c .before .columns-of-fields .ensures ∙ ap (λ k. 6 * k) (o .on-line .ensures ∙ ap (λ k. min k 20) (o .before .words-said .ensures .0)))
 

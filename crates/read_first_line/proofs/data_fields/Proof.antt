@@ -1,5 +1,5 @@
-use Rattle.read_first_line.proofs.Steps.{told, flaw-stops, good-passes}
-use Rattle.read_first_line.proofs.Fronts.{counted, least-take}
+use Rattle.read_first_line.proofs.Steps.{said-by, flaw-stops, good-passes}
+use Rattle.read_first_line.proofs.Fronts.{lprol-counted, least-take}
 use Rattle.read_first_line.specs.FirstLine.{dataFields}
 use denote.Ref.{now}
 use lib.ListN.{take}
@@ -10,7 +10,7 @@ use Rattle.read_first_line.proofs.data_fields.Tie as tie
 
 prologue-fields-requires : tie.Need-prologue-fields-requires
 prologue-fields-requires c κs = let f = c .before .before .before .before .before in let s = f .before .before .before .before in let row = f .count-fields .last .1 .1 .0 in
-    (f .count-fields .kept .1 .1 .0 ∙ s .pre, least-take 16 row (counted (s .args .num .0) (now (s .args .line)) (take 12 (now (s .args .row))) (take 16 row) (told (take 16 row) (c .before .enum-told .given .1) (f .count-fields .ensures))))
+    (f .count-fields .kept .1 .1 .0 ∙ s .pre, least-take 16 row (lprol-counted (s .args .num .0) (now (s .args .line)) (take 12 (now (s .args .row))) (take 16 row) (said-by (take 16 row) (c .before .enum-told .given .1) (f .count-fields .ensures))))
 
 returns : tie.Need-returns
 unfolding dataFields

@@ -1,5 +1,5 @@
 use Rattle.read_first_line.specs.FirstLine.{dataRoom, dataGiven}
-use Rattle.read_columns.specs.Cases.{checkedOf}
+use Rattle.read_columns.specs.Cases.{testedOf}
 use Rattle.record.specs.Counts.{countsOf}
 use Rattle.record.proofs.FourCounts.{counts-take}
 use Rattle.words.specs.Words.{word}
@@ -7,7 +7,7 @@ use lib.ListN.{getD, take}
 use lib.Seq.{getD-take}
 use Prim.Native.Nat.{min}
 use mathlib.Core.Path.{_≡_, sym, ap, ap₂, _∙_}
-use Rattle.read_first_line.proofs.Steps.{told, same-step, flaw-ends, good-goes}
+use Rattle.read_first_line.proofs.Steps.{said-by, same-step, flaw-ends, good-goes}
 use Rattle.read_first_line.proofs.Heads.{room-most}
 use denote.Ref.{now}
 use native.Mathlib.Omega.{arith}
@@ -20,14 +20,14 @@ used-is c = c .on-line .ensures ∙ ap (λ k. min k 20) (c .before .words-said .
 
 -- the fields that count have the counts and the line count of the row
 said : (c : tie.After-data-room) → let a = c .before .before .before .before .before .before .before .before .args in let ws = take (min (getD (now (a .row)) 12 0) 20) (now (a .row)) in
-    checkedOf tt (c .data-room .result) ≡ dataRoom (a .num .0) (a .held .0) (word ws 1) (countsOf ws)
+    testedOf tt (c .data-room .result) ≡ dataRoom (a .num .0) (a .held .0) (word ws 1) (countsOf ws)
 said c = let s = c .before .before .before .before .before .before .before .before in let row = now (s .args .row) in let used = min (getD row 12 0) 20 in
     c .data-room .ensures
     ∙ ap₂ (dataRoom _ _) (sym (getD-take used row 0 0 (omega (arith, s .pre .0)))) (c .before .row-counts .ensures ∙ sym (counts-take used row (omega (arith, s .pre .0))))
 
 put-data-requires : tie.Need-put-data-requires
 put-data-requires c κs = let d = c .before .before .before in let o = d .before .before .before in let s = o .before .before .before .before .before in
-    let used = used-is o in let m = room-most _ _ _ _ (told tt (c .before .enum-told .given .1) (d .data-room .ensures ∙ ap (dataRoom _ _ _) (d .before .row-counts .ensures))) in
+    let used = used-is o in let m = room-most _ _ _ _ (said-by tt (c .before .enum-told .given .1) (d .data-room .ensures ∙ ap (dataRoom _ _ _) (d .before .row-counts .ensures))) in
     (used, omega (arith, used, s .pre .0), s .pre .1, omega (arith, m), s .pre .2)
 
 returns : tie.Need-returns

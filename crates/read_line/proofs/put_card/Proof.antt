@@ -7,7 +7,7 @@ use lib.Seq.{length-take-le}
 use Rattle.words.specs.Words.{Below}
 use Rattle.words.proofs.Laws.{all-below}
 use Rattle.words.proofs.Writing.{sets-append}
-use Rattle.read_line.proofs.Cards.{card-bytes, long-card, short-card}
+use Rattle.read_line.proofs.Cards.{card-columns, long-card, short-card}
 use borrow.Author.Needs.{needs}
 use Rattle.read_line.proofs.put_card.Statement.{statement}
 use Rattle.read_line.proofs.put_card.Tie as tie
@@ -22,12 +22,12 @@ slice-aggregate-store-bytes c = sym (length-take-le 80 (now (start-before-bytes-
 returns : tie.Need-returns
 returns c = let a = start-before-bytes-of-words (c .before .before .before .before .before .before) .args in let l = now (a .line) in
     let below : Below 256 l = all-below 256 l (λ i. omega (arith, c .before .before .before .before .before .before .before .before .before .shared-slice-known .given i)) in
-    c .before .before .store-bytes .ensures ∙ rw (c .before .before .before .before .before .before .bytes-of-words .ensures, card-bytes l below, long-card l (c .before .before .before .before .before .if1 .taken))
+    c .before .before .store-bytes .ensures ∙ rw (c .before .before .before .before .before .before .bytes-of-words .ensures, card-columns l below, long-card l (c .before .before .before .before .before .if1 .taken))
 
 returns-2 : tie.Need-returns-2
 returns-2 c = let a = start-before-bytes-of-words (c .before .before .before .before .before .before .before .before .before) .args in let l = now (a .line) in
     let below : Below 256 l = all-below 256 l (λ i. omega (arith, c .before .before .before .before .before .before .before .before .before .before .before .before .shared-slice-known .given i)) in
-    c .before .before .store-filling .ensures ∙ rw (c .before .before .before .before .before .before .store-bytes2 .ensures, c .before .before .before .before .before .before .before .before .before .bytes-of-words .ensures, card-bytes l below, short-card l (c .before .before .before .before .before .before .before .before .if1 .left)) (sym (sets-append (now (a .block)) ((a .held .0 + 1) * 2) l (replicate (80 - length l) 32)))
+    c .before .before .store-filling .ensures ∙ rw (c .before .before .before .before .before .before .store-bytes2 .ensures, c .before .before .before .before .before .before .before .before .before .bytes-of-words .ensures, card-columns l below, short-card l (c .before .before .before .before .before .before .before .before .if1 .left)) (sym (sets-append (now (a .block)) ((a .held .0 + 1) * 2) l (replicate (80 - length l) 32)))
 
 pub put-card-spec : {M : Type 1} → statement M
 put-card-spec =

@@ -6,8 +6,8 @@ use mathlib.Core.List.{[]}
 use Prim.Native.Nat.{_*_}
 use lib.ListN.{take}
 use Rattle.units.specs.Answers.{passed, onward}
-use Rattle.read_columns.specs.Columns.{numbers, blankAfter}
-use Rattle.read_columns.specs.Cases.{checkedOf}
+use Rattle.read_columns.specs.Columns.{fieldNumbers, blankAfter}
+use Rattle.read_columns.specs.Cases.{testedOf}
 use Rattle.read_line.specs.Lines.{rowFields}
 use Rattle.read_first_line.proofs.Steps.{checked-on, flaw-read, good-read}
 use borrow.Author.Needs.{needs}
@@ -21,14 +21,14 @@ read-numbers-before-blank-after c = c .before .before .before .before .before .b
 returns : tie.Need-returns
 unfolding rowFields
 returns c = let a = c .before .before .before .before .before .before .before .before .before .args in let num = a .num .0 in let l = now (a .line) in let n = a .count .0 in
-    flaw-read [] (λ r. onward (blankAfter num l (6 * n)) (λ _. passed r)) (numbers num l 0 n) _ (c .before .f .given .1) (c .before .before .before .before .before .read-numbers .ensures)
+    flaw-read [] (λ r. onward (blankAfter num l (6 * n)) (λ _. passed r)) (fieldNumbers num l 0 n) _ (c .before .f .given .1) (c .before .before .before .before .before .read-numbers .ensures)
 
 returns-2 : tie.Need-returns-2
 unfolding rowFields
 returns-2 c = let a = read-numbers-before-blank-after c .before .before .before .before .args in let num = a .num .0 in let l = now (a .line) in let n = a .count .0 in let row = read-numbers-before-blank-after c .read-numbers .last .1 .1 .1 .1 .0 in
     let e : c .before .columns-of-fields .result .0 ≡ 6 * n = omega (arith, c .before .columns-of-fields .ensures) in
     checked-on (take n row) (c .blank-after .result) (blankAfter num l (6 * n)) (c .blank-after .ensures ∙ ap (blankAfter num l) e)
-    ∙ good-read [] (λ r. onward (blankAfter num l (6 * n)) (λ _. passed r)) (numbers num l 0 n) (take n row) (c .before .before .enum-told .given .1) (ap (λ k. checkedOf (take k row) (read-numbers-before-blank-after c .read-numbers .result)) (sym (zero-add n)) ∙ read-numbers-before-blank-after c .read-numbers .ensures)
+    ∙ good-read [] (λ r. onward (blankAfter num l (6 * n)) (λ _. passed r)) (fieldNumbers num l 0 n) (take n row) (c .before .before .enum-told .given .1) (ap (λ k. testedOf (take k row) (read-numbers-before-blank-after c .read-numbers .result)) (sym (zero-add n)) ∙ read-numbers-before-blank-after c .read-numbers .ensures)
 
 pub row-fields-spec : {M : Type 1} → statement M
 row-fields-spec =

@@ -1,4 +1,4 @@
-use Rattle.read_text.proofs.Outcome.{too-long, line-by-line, counted}
+use Rattle.read_text.proofs.Outcome.{too-long, line-by-line, words-counted}
 use denote.Ref.{now}
 use mathlib.Core.Path.{sym, ap, _∙_}
 use mathlib.Core.List.{[]}
@@ -14,7 +14,7 @@ returns c = let t = now (c .before .before .args .text) in rw (too-long t (c .if
 
 returns-2 : tie.Need-returns-2
 returns-2 c = let t = now (c .before .before .before .before .before .args .text) in
-    counted t [] (c .before .read-lines .last .1 .0) (c .before .read-lines .result) (c .before .read-lines .ensures ∙ ap (stored 0 []) (sym (line-by-line t (c .before .before .before .if1 .left))))
+    words-counted t [] (c .before .read-lines .last .1 .0) (c .before .read-lines .result) (c .before .read-lines .ensures ∙ ap (stored 0 []) (sym (line-by-line t (c .before .before .before .if1 .left))))
 
 pub judge-spec : {M : Type 1} → statement M
 judge-spec = tie.close (tie.spec returns (λ c. search needs) (λ c κs. search needs) returns-2)

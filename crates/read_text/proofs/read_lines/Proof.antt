@@ -11,7 +11,7 @@ use Rattle.read_line.specs.Lines.{readLines}
 use Rattle.read_first_line.specs.State.{toCome, standOf}
 use Rattle.read_first_line.specs.FirstLine.{Shape}
 use Rattle.read_text.specs.Content.{stored}
-use Rattle.read_text.proofs.Opened.{wordsToCome}
+use Rattle.read_text.proofs.Opened.{wordsToCome, RoomToCome}
 use Rattle.read_text.proofs.read_lines.Statement.{statement}
 use Rattle.read_text.proofs.read_lines.Tie as tie
 
@@ -50,7 +50,7 @@ before : (c : tie.After-next-line Inv-loop μ-loop) → let l = c .before .befor
 before c = let l = c .before .before .loop in ap (λ x. stored (l .held .0) (l .block) (readLines (l .num) (l .held .0) (toCome (l .plan)) x)) (sym (c .next-line .ensures .cut)) ∙ l .inv .same
 
 -- at the start nothing is held, and nothing is to come
-none-held : {rest : List Shape} → rest ≡ [] → 0 + wordsToCome rest ≤ 7998
+none-held : {rest : List Shape} → rest ≡ [] → RoomToCome 0 rest
 unfolding wordsToCome
 none-held e = rw e (omega arith)
 

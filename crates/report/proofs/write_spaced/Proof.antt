@@ -4,7 +4,7 @@ use mathlib.Core.List.{[], _∷_, _++_}
 use native.Mathlib.Omega.{arith}
 use lib.ListN.{length, getD, drop, set, drop-of-length-le}
 use denote.Ref.{now}
-use Rattle.words.proofs.Writing.{Going, start, fits, on, stored, done}
+use Rattle.words.proofs.Writing.{Going, start, fits, on, byte-put, done}
 use Rattle.report.specs.Decimal.{decimalOf, spaced}
 use Rattle.report.proofs.Lines.{spaced-turn}
 use Rattle.report.proofs.write_spaced.Statement.{statement}
@@ -31,7 +31,7 @@ room c = fits (c .before .loop .inv .1) (32 ∷ []) _ (turn c) (start-before-tur
 -- the space is in, and the number is left
 going : (c : tie.In-loop Inv-loop μ-loop) → let l = c .before .loop in let a = start-before-turn c .args in
     Going (now (a .out)) (a .at .0) (spaced (now (a .numbers))) (set (l .out) (l .to) 32) (l .to + 1) (decimalOf (getD (now (a .numbers)) (l .i) 0) ++ spaced (drop (l .i + 1) (now (a .numbers))))
-going c = on (c .before .loop .inv .1) (32 ∷ []) _ (turn c) (stored _ _ 32)
+going c = on (c .before .loop .inv .1) (32 ∷ []) _ (turn c) (byte-put _ _ 32)
 
 loop-holds : tie.Need-loop-holds Inv-loop μ-loop
 loop-holds c = (omega arith, start)

@@ -1,4 +1,4 @@
-use Rattle.words.proofs.Writing.{Going, start, fits, on, stored, done}
+use Rattle.words.proofs.Writing.{Going, start, fits, on, byte-put, done}
 use denote.Ref.{now}
 use lib.Seq.{drop-cons}
 use lib.ListN.{length, getD, drop, drop-of-length-le}
@@ -36,7 +36,7 @@ add-to : tie.Need-add-to Inv-loop μ-loop
 add-to c = omega (arith, room c, c .before .before .loop .inv .1 .kept)
 
 loop-again : tie.Need-loop-again Inv-loop μ-loop
-loop-again c = (omega arith, on (c .before .before .loop .inv .1) _ _ (turn c) (stored _ _ _))
+loop-again c = (omega arith, on (c .before .before .loop .inv .1) _ _ (turn c) (byte-put _ _ _))
 
 same-length : tie.Need-same-length Inv-loop μ-loop
 same-length c = c .before .loop .inv .1 .kept

@@ -1,4 +1,4 @@
-use Rattle.write_lines.proofs.Sizes.{sized}
+use Rattle.write_lines.proofs.Sizes.{record-sized}
 use Rattle.block.proofs.Exact.{ok-long}
 use Rattle.words.specs.Words.{wordsOf}
 use denote.Ref.{now}
@@ -12,5 +12,5 @@ count-shown-spec =
     tie.close
     (tie.spec
     (λ c κs. ok-long (wordsOf (now (c .before .args .whole))) (c .before .pre .0))
-    (λ c κs. let s = c .before .before in omega (arith, c .line-count .ensures, sized (wordsOf (now (s .args .whole))) (s .pre .0) .count-most))
+    (λ c κs. let s = c .before .before in omega (arith, c .line-count .ensures, record-sized (wordsOf (now (s .args .whole))) (s .pre .0) .count-most))
     (λ c. c .saying-lines .ensures ∙ c .before .line-count .ensures))

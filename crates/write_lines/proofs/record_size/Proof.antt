@@ -1,4 +1,4 @@
-use Rattle.write_lines.proofs.Sizes.{Sized, sized, data-size, cards-size, is-cards}
+use Rattle.write_lines.proofs.Sizes.{Sized, record-sized, data-size, cards-size, is-cards}
 use Rattle.write_lines.specs.Lines.{linesOf}
 use Rattle.write_parts.specs.Laid.{ended}
 use Rattle.record.specs.Lines.{lineCount}
@@ -27,7 +27,7 @@ abbrev ws : tie.Start → List ℕ
 ws s = wordsOf (now (s .args .whole))
 
 known : (s : tie.Start) → Sized (ws s)
-known s = sized (ws s) (s .pre .0)
+known s = record-sized (ws s) (s .pre .0)
 
 -- the size by the record's kind
 data-bytes : (c : tie.Then1) → length (ended (linesOf (ws (start-before-word-at (c .before))))) ≡ 6 * length (ws (start-before-word-at (c .before))) + lineCount (ws (start-before-word-at (c .before)))

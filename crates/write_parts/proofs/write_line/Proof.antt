@@ -1,5 +1,5 @@
 use Rattle.write_parts.specs.Laid.{fieldsOf}
-use Rattle.words.proofs.Writing.{Going, start, fits, on, stored, done}
+use Rattle.words.proofs.Writing.{Going, start, fits, on, byte-put, done}
 use Rattle.words.specs.Words.{wordsOf}
 use denote.Ref.{now}
 use lib.ListN.{length, take, drop}
@@ -36,7 +36,7 @@ add-next : tie.Need-add-next
 add-next c = omega (arith, room (c .before .before), going (c .before .before) .kept)
 
 returns : tie.Need-returns
-returns c = done (on (going (c .before .before)) (10 ∷ []) [] refl (stored _ _ 10)) refl
+returns c = done (on (going (c .before .before)) (10 ∷ []) [] refl (byte-put _ _ 10)) refl
 
 pub write-line-spec : {M : Type 1} → statement M
 write-line-spec =

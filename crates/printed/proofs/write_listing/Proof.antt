@@ -11,8 +11,8 @@ use Rattle.block.specs.Records.{recordsOf}
 use Rattle.block.proofs.Loops.{Loop, Turn, loop-start, turn, loop-on, loop-end}
 use Rattle.printed.specs.Listing.{rowOf, rowsOf}
 use Rattle.printed.proofs.Rows.{rows-on}
-use Rattle.printed.proofs.write_rows.Statement.{statement}
-use Rattle.printed.proofs.write_rows.Tie as tie
+use Rattle.printed.proofs.write_listing.Statement.{statement}
+use Rattle.printed.proofs.write_listing.Tie as tie
 
 -- the lines of the records that are left are still to be put
 record Rows (block before out : List ℕ) (at number to : ℕ) (rs : List (List ℕ)) : Type 0 where
@@ -45,8 +45,8 @@ loop-again : tie.Need-loop-again Inv-loop μ-loop
 loop-again c = let t = found (c .before .before .before .before) in
     loop-on t (record { few = omega (arith, t .long, t .holds .few); going = on (t .holds .going) _ _ (rows-on _ _ _ _ _ (t .size)) (c .before .before .write-row .ensures) })
 
-pub write-rows-spec : {M : Type 1} → statement M
-write-rows-spec =
+pub write-listing-spec : {M : Type 1} → statement M
+write-listing-spec =
     tie.close
     (tie.spec
     Inv-loop

@@ -4,8 +4,8 @@ use Rattle.words.proofs.Laws.{length-wordsOf}
 use denote.Ref.{now}
 use native.Mathlib.Omega.{arith}
 use borrow.Author.Needs.{needs}
-use Rattle.words.proofs.part.Statement.{statement}
-use Rattle.words.proofs.part.Tie as tie
+use Rattle.words.proofs.span.Statement.{statement}
+use Rattle.words.proofs.span.Tie as tie
 
 bytes-of-words-requires : tie.Need-bytes-of-words-requires
 bytes-of-words-requires c κs = omega (arith, c .before .pre .0, c .before .pre .1, length-wordsOf (now (c .before .args .whole)))
@@ -20,8 +20,8 @@ returns : tie.Need-returns
 returns c = let s = c .before .before .before .before in
     rw (c .before .bytes-of-words2 .ensures, c .before .before .bytes-of-words .ensures) (part-slice (s .args .from .0 * 2) (s .args .upto .0 * 2) (now (s .args .whole)) (omega (arith, s .pre .0)))
 
-pub part-spec : {M : Type 1} → statement M
-part-spec =
+pub span-spec : {M : Type 1} → statement M
+span-spec =
     tie.close
     (tie.spec
     bytes-of-words-requires

@@ -7,8 +7,8 @@ use borrow.Author.Tests.{not-true, not-false}
 use lib.ListN.{length, drop}
 use Rattle.words.specs.Scans.{within, plainIn}
 use Rattle.words.proofs.Scans.{scan-on, scan-stop, scan-end}
-use Rattle.read_cut.proofs.plain_to.Statement.{statement}
-use Rattle.read_cut.proofs.plain_to.Tie as tie
+use Rattle.read_cut.proofs.plain_end.Statement.{statement}
+use Rattle.read_cut.proofs.plain_end.Tie as tie
 
 abbrev Inv-loop : tie.InvT-loop
 Inv-loop text at i₀ i = i + plainIn (drop i text) ≡ at + plainIn (drop at text)
@@ -27,8 +27,8 @@ loop-again c = let l = c .before .before .before .before in
 returns-2 : tie.Need-returns-2 Inv-loop μ-loop
 returns-2 c = let l = c .before in omega (arith, scan-end (within 32 126) (now (l .before .before .args .text)) (l .loop .i) (c .loop-test .left))
 
-pub plain-to-spec : {M : Type 1} → statement M
-plain-to-spec =
+pub plain-end-spec : {M : Type 1} → statement M
+plain-end-spec =
     tie.close
     (tie.spec
     Inv-loop

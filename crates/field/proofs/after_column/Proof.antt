@@ -1,10 +1,10 @@
 use Rattle.field.proofs.Columns.{a-blank, a-minus, a-plus, first-digit, after-sign, after-digits, digits-small}
 use borrow.Author.Needs.{needs}
-use Rattle.field.proofs.step.Statement.{statement}
-use Rattle.field.proofs.step.Tie as tie
+use Rattle.field.proofs.after_column.Statement.{statement}
+use Rattle.field.proofs.after_column.Tie as tie
 
-pub step-spec : {M : Type 1} → statement M
-step-spec =
+pub after-column-spec : {M : Type 1} → statement M
+after-column-spec =
     tie.close
     (tie.spec
     (λ c. search needs)

@@ -1,8 +1,8 @@
-use Rattle.amending.proofs.refusal_numbers.Statement.{statement}
-use Rattle.amending.proofs.refusal_numbers.Tie as tie
+use Rattle.amending.proofs.objection_numbers.Statement.{statement}
+use Rattle.amending.proofs.objection_numbers.Tie as tie
 
-pub refusal-numbers-spec : {M : Type 1} → statement M
-refusal-numbers-spec =
+pub objection-numbers-spec : {M : Type 1} → statement M
+objection-numbers-spec =
     tie.close
     (tie.spec
     (λ c. c .match .keys1) (λ c κs. tt)
