@@ -4,9 +4,9 @@ use mathlib.Core.List.{List, [], _∷_}
 use Prim.Native.Nat.{ℕ, _+_, _≤_, _<_}
 use native.Mathlib.Omega.{arith}
 use lib.ListN.{length}
-use Rattle.words.specs.Words.{wordsOf, bytesOf, Below, mostRecordWords}
+use Rattle.words.specs.Words.{wordsOf, bytesOf, Below}
 use Rattle.words.proofs.Laws.{words-bytes}
-use Rattle.record.specs.Rules.{RecordOk}
+use Rattle.block.specs.Rules.{BlockRecord}
 use Rattle.block.specs.Judging.{Accepted}
 use Rattle.block.specs.Records.{recordsOf}
 use Rattle.block.specs.Steps.{wordsAt, recordFrom}
@@ -22,11 +22,10 @@ pub record Loop (b : List ℕ) (at : ℕ) (P : List (List ℕ) → Type 0) : Typ
 pub record Turn {b : List ℕ} {at : ℕ} {P : List (List ℕ) → Type 0} (l : Loop b at P) (part : List ℕ) (n : ℕ) : Type 0 where
   pub others : List (List ℕ)
   pub holds : P (wordsOf part ∷ others)
-  pub ok : RecordOk (wordsOf part)
+  pub good : BlockRecord (wordsOf part)
   pub bytes : part ≡ bytesOf (wordsOf part)
   pub size : n ≡ length (wordsOf part)
   pub long : 16 ≤ n
-  pub most : n ≤ mostRecordWords
   pub within : at + n < length (wordsOf b)
   pub left : LeftFrom (wordsOf b) (at + n) others
 
@@ -55,11 +54,10 @@ module _ {b : List ℕ} {at : ℕ} {P : List (List ℕ) → Type 0} (l : Loop b 
           record {
             others = rs;
             holds = rw are h;
-            ok = rw are (f .ok);
+            good = rw are (record { ok = f .ok; most = omega (arith, f .within, left .start, left .most) });
             bytes = lent ∙ ap bytesOf (sym its-words);
             size = size;
             long = omega (arith, f .long);
-            most = omega (arith, f .within, left .start, left .most);
             within = omega (arith, f .within);
             left = rw k (f .left);
           }

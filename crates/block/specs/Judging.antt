@@ -30,15 +30,19 @@ walk skip n [] = passed (n - 1)
 walk zero n (w ∷ ws) = onward (judgeRecord n (w ∷ ws)) (λ k. walk (k - 1) (n + 1) ws)
 walk (suc skip) n (w ∷ ws) = walk skip n ws
 
+-- row 3, "then each record": the words of a block whose size and length word are right
+abbrev pub summed : List ℕ → Verdict ℕ
+summed ws =
+    let stored = word ws (length ws) in
+    if not (eqb stored (checksumOf ws)) then refused (answer 3 0 0 (ones (bitXor stored (checksumOf ws)))) else walk 0 1 (inner ws)
+
 -- "Order for a block: 1, 2, 3, then each record"; the number of records, or the first refusal
 unfoldable pub judged : List ℕ → Verdict ℕ
 judged b =
     let ws = wordsOf b in
-    let stored = word ws (length ws) in
     if wrongSize (length b) then refused (answer 1 0 0 0)
     else if not (eqb (word ws 1) (length ws)) then refused (answer 2 0 0 0)
-    else if not (eqb stored (checksumOf ws)) then refused (answer 3 0 0 (ones (bitXor stored (checksumOf ws))))
-    else walk 0 1 (inner ws)
+    else summed ws
 
 -- a block that is accepted, with `count` records
 pub record Accepted (b : List ℕ) : Type 0 where

@@ -10,6 +10,11 @@ use Rattle.record.specs.Rules.{RecordOk}
 abbrev pub blockOf : List (List ℕ) → List ℕ
 blockOf rs = bytesOf (framed (joined rs))
 
+-- a good record that is no longer than a block's records may be
+pub record BlockRecord (r : List ℕ) : Type 0 where
+  pub ok : RecordOk r
+  pub most : length r ≤ mostRecordWords
+
 -- these bytes are a block of these records: "one or more records", "18 to 8,000 words and the buffer is exactly the block"
 pub record IsBlock (b : List ℕ) (rs : List (List ℕ)) : Type 0 where
   pub bytes : b ≡ blockOf rs

@@ -9,7 +9,7 @@ ghost use Prim.Native.Nat.{_<_, _≤_};
 ghost use lib.ListN.{length};
 ghost use Rattle.units.specs.Answers.{answered};
 ghost use Rattle.words.specs.Words.{wordsOf, bytesOf, mostWords};
-ghost use Rattle.block.specs.Judging.{wrongSize, walk, judged};
+ghost use Rattle.block.specs.Judging.{wrongSize, walk, summed, judged};
 ghost use Rattle.block.specs.Cases.{refusalOf, judgedOf};
 ghost use Rattle.block.specs.Steps.{stepOf, recordFrom, findOf};
 
@@ -70,19 +70,12 @@ fn judge_records(inner: &[u8]) -> Judged
     Judged::Records(count)
 }
 
-// Judges a block: whether it keeps the rules of the format, and how many records it has.
-pub fn judge(block: &[u8]) -> Judged
-    ensures { λ r. ⌜ judgedOf r ≡ judged (now (block .entry)) ⌝ }
+// Judges the checksum and the records of a block whose size and length word are right.
+fn judge_words(block: &[u8]) -> Judged
+    requires { ⌜ (18 ≤ length (wordsOf (now block))) × (length (wordsOf (now block)) ≤ mostWords) ⌝ }
+    ensures { λ r. ⌜ judgedOf r ≡ summed (wordsOf (now (block .entry))) ⌝ }
 {
-    if wrong_size(Bytes(block.len())) {
-        return Judged::Refused(Refusal::Size);
-    }
-    let m = words::count(block).0;
-    let stated = units::words_said(words::word_at(block, Words(0))).0;
-    if stated != m {
-        return Judged::Refused(Refusal::WordCount);
-    }
-    let end = m - 1;
+    let end = words::count(block).0 - 1;
     let last = Words(end);
     let stored = words::word_at(block, last);
     let checksum = words::exclusive_or(words::span(block, Words(0), last));
@@ -91,6 +84,21 @@ pub fn judge(block: &[u8]) -> Judged
         return Judged::Refused(Refusal::Checksum(bits));
     }
     judge_records(words::span(block, Words(1), last))
+}
+
+// Judges a block: whether it keeps the rules of the format, and how many records it has.
+pub fn judge(block: &[u8]) -> Judged
+    ensures { λ r. ⌜ judgedOf r ≡ judged (now (block .entry)) ⌝ }
+{
+    if wrong_size(Bytes(block.len())) {
+        return Judged::Refused(Refusal::Size);
+    }
+    let stated = units::words_said(words::word_at(block, Words(0))).0;
+    let there = words::count(block).0;
+    if stated != there {
+        return Judged::Refused(Refusal::WordCount);
+    }
+    judge_words(block)
 }
 
 // The four numbers of an answer.

@@ -15,7 +15,7 @@ use Rattle.read_columns.specs.Columns.{number}
 use Rattle.report.specs.Text.{bytesFrom, behind, lineOf}
 use Rattle.report.specs.Decimal.{decimalOf}
 use Rattle.report.specs.Refusal.{refusalLine}
-use Rattle.printed.specs.Listing.{signedOf, rowOf, rowsOf, listingOf}
+use Rattle.printed.specs.Listing.{signedOf, rowOf, rowsOf}
 use Rattle.write_parts.specs.Laid.{fieldsOf, laid, ended}
 use Rattle.line_plan.specs.Plan.{part, times, plan}
 use Rattle.write_lines.specs.Lines.{linesOf}
@@ -38,7 +38,7 @@ unfolding prefixRows table beside
 prefix-rows = refl
 
 pub listing-rows : ListingRows
-unfolding listingRows blockK wordsOf bytesOf xorAll underLeast judgeCounts judgeData judgeRecord wrongSize walk judged cut recordsOf lineCount beside table bytesFrom behind lineOf decimal decimalOf signedOf rowOf rowsOf refusalLine listingOf inRange
+unfolding listingRows blockK wordsOf bytesOf xorAll underLeast judgeCounts judgeData judgeRecord wrongSize walk judged cut recordsOf lineCount beside table bytesFrom behind lineOf decimal decimalOf signedOf rowOf rowsOf refusalLine inRange
 listing-rows = refl
 
 pub read-rows : ReadRows

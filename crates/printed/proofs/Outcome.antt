@@ -12,7 +12,11 @@ use Rattle.words.specs.Outcomes.{written, leaves}
 use Rattle.words.specs.Writing.{Room, Put}
 use Rattle.words.proofs.Writing.{all-written}
 use Rattle.words.proofs.Sealing.{length-framed}
-use Rattle.block.specs.Judging.{judged}
+use Rattle.block.specs.Judging.{judged, Accepted}
+use Rattle.block.specs.Cases.{judgedOf, refusalOf}
+use Rattle.block.specs.declared.Refusal.{Refusal}
+use Rattle.block.specs.declared.Judged.{Judged}
+use Rattle.block.specs.declared.Judged.the-variants.{Records, Refused}
 use Rattle.block.specs.Records.{recordsOf}
 use Rattle.write_lines.specs.Text.{textOf}
 use Rattle.write_lines.proofs.Sizes.{text-bound}
@@ -40,14 +44,21 @@ prints {out} {whole} {text} h is =
 
 -- what is made of what passed, or the line of a refusal
 module _ {A : Type 0} (f : A → List ℕ) {v : Verdict A} {out : List ℕ} (h : Room out 0 (orRefusal f v)) where
-  pub prints-passed : {x : A} → v ≡ passed x → Prints out (orRefusal f v) (f x)
+  prints-passed : {x : A} → v ≡ passed x → Prints out (orRefusal f v) (f x)
   prints-passed e = prints h (ap (orRefusal f) e)
 
-  pub prints-refused : {r s : Answer} → v ≡ refused r → s ≡ r → Prints out (orRefusal f v) (refusalLine s)
+  prints-refused : {r s : Answer} → v ≡ refused r → s ≡ r → Prints out (orRefusal f v) (refusalLine s)
   prints-refused e is = prints h (ap (orRefusal f) e ∙ ap refusalLine (sym is))
 
+-- of a block: a text for all its records, or the line of its refusal
+module _ (text b : List ℕ) {out : List ℕ} {j : Judged} (h : Room out 0 (orRefusal (λ _. text) (judged b))) (e : judgedOf j ≡ judged b) where
+  pub accepted-prints : {k : ℕ} → j ≡ Records k → Accepted b × Prints out (orRefusal (λ _. text) (judged b)) text
+  accepted-prints is = let p = sym e ∙ ap judgedOf is in (record { count = _; is = p }, prints-passed (λ _. text) h p)
+
+  pub refused-prints : {r : Refusal} {s : Answer} → j ≡ Refused r → s ≡ refusalOf r → Prints out (orRefusal (λ _. text) (judged b)) (refusalLine s)
+  refused-prints is says = prints-refused (λ _. text) h (sym e ∙ ap judgedOf is) says
+
 pub lines-bound : (b : List ℕ) → Below 256 b → length (linesPrinted b) ≤ 55971
-unfolding linesPrinted
 lines-bound b h = printed-most (λ _. textOf (recordsOf b)) 55971 (omega arith) (judged b) (λ k e. text-bound b h (record { count = k; is = e }))
 
 -- the bytes of a block
@@ -55,7 +66,6 @@ abbrev blockOf : List ℕ → List ℕ
 blockOf ws = bytesOf (framed ws)
 
 pub block-bound : (t : List ℕ) → length (blockPrinted t) ≤ 16000
-unfolding blockPrinted
 block-bound t = printed-most blockOf 16000 (omega arith) (readText t) (λ ws e. omega (arith, length-framed ws, words-room t ws e))
 
 -- lines to block, into a buffer that has room
@@ -69,7 +79,7 @@ module _ (t out : List ℕ) (room : Room out 0 (blockPrinted t)) {r : Answer} {a
 
   -- with 0 the block was put in
   pub block-put : r .n ≡ 0 → Put out 0 (blockPrinted t) after (r .a)
-  unfolding toBlock written blockPrinted
+  unfolding toBlock written
   block-put none = by (readText t) (text-known t) e room
     where
       by : (v : Verdict (List ℕ)) → Known TextRow (WordsFit 0) v → From v → Room out 0 (orRefusal blockOf v) → Put out 0 (orRefusal blockOf v) after (r .a)
@@ -78,7 +88,7 @@ module _ (t out : List ℕ) (room : Room out 0 (blockPrinted t)) {r : Answer} {a
 
   -- with a refusal the buffer is as it was, and the line of the refusal is to be printed
   pub block-refused : (r .n ≡ 0 → ⊥) → (after ≡ out) × (blockPrinted t ≡ refusalLine r)
-  unfolding toBlock written blockPrinted
+  unfolding toBlock written
   block-refused some = by (readText t) e room
     where
       by : (v : Verdict (List ℕ)) → From v → Room out 0 (orRefusal blockOf v) → (after ≡ out) × (orRefusal blockOf v ≡ refusalLine r)

@@ -1,7 +1,7 @@
 -- How long a listing is at most.
-use mathlib.Core.Path.{_≡_, ap}
+use mathlib.Core.Path.{_≡_, refl, ap}
 use mathlib.Core.Bool.{Bool, true, false}
-use mathlib.Core.List.{List, [], _∷_, _++_}
+use mathlib.Core.List.{List, [], _∷_}
 use Prim.Native.Nat.{ℕ, _+_, _-_, _*_, _≤_, _<_}
 use native.Mathlib.Omega.{arith}
 use lib.Dec.{ltb}
@@ -18,8 +18,8 @@ use Rattle.prefix.specs.Table.{prefixOf}
 use Rattle.report.specs.Decimal.{decimalOf, spaced}
 use Rattle.report.proofs.Digits.{most-digits, few-digits}
 use Rattle.report.proofs.Lines.{spaced-most, printed-most}
-use Rattle.printed.specs.Listing.{signedOf, rowOf, rowsOf, listingOf}
-use Rattle.printed.proofs.Rows.{ending, closing, ending-pieces, middle, row-pieces}
+use Rattle.printed.specs.Listing.{signedOf, frontOf, rowOf, rowsOf, listingOf}
+use Rattle.printed.proofs.Rows.{ending, closing, ending-pieces, row-pieces}
 
 signed-most : (w : ℕ) → length (signedOf w) ≤ 11
 unfolding signedOf
@@ -36,10 +36,10 @@ row-most number before r hn hb =
     let three = word r 2 ∷ (length r ∷ (lineCount r ∷ [])) in
     omega (
       arith,
-      ap length (row-pieces number before r),
-      length-append (decimalOf number) (spaced (middle before r) ++ ending w),
+      ap length (row-pieces number before w r refl),
+      length-append (frontOf number before r) (ending w),
       few-digits 3 number (omega arith),
-      length-append (spaced (middle before r)) (ending w),
+      length-append (decimalOf number) (spaced ((before + 1) ∷ three)),
       length-append (decimalOf (before + 1)) (spaced three),
       few-digits 4 (before + 1) (omega arith),
       spaced-most three,
@@ -70,5 +70,4 @@ rows-bound b k h e =
 
 -- a listing is never longer than 32,768 bytes
 pub listing-bound : (b : List ℕ) → Below 256 b → length (listingOf b) ≤ 32768
-unfolding listingOf
 listing-bound b h = printed-most (λ _. rowsOf 1 1 (recordsOf b)) 32768 (omega arith) (judged b) (λ k e. rows-bound b k h e)

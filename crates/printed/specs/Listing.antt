@@ -11,7 +11,7 @@ use Rattle.block.specs.Records.{recordsOf}
 use Rattle.prefix.specs.declared.Letters.{Letters}
 use Rattle.prefix.specs.Table.{prefixOf}
 use Rattle.report.specs.Text.{lineOf}
-use Rattle.report.specs.Decimal.{decimalOf}
+use Rattle.report.specs.Decimal.{decimalOf, spaced}
 use Rattle.report.specs.Refusal.{orRefusal}
 
 -- "Words are 16 bits, ... two's complement": the number that a word stands for
@@ -35,11 +35,15 @@ rowOf number before r =
     ∷ lettersOf (prefixOf (word r 3))
     ∷ [])
 
+-- the line up to its lines
+abbrev pub frontOf : ℕ → ℕ → List ℕ → List ℕ
+frontOf number before r = decimalOf number ++ spaced ((before + 1) ∷ (word r 2 ∷ (length r ∷ (lineCount r ∷ []))))
+
 -- "It prints for each record"
 unfoldable pub rowsOf : ℕ → ℕ → List (List ℕ) → List ℕ
 rowsOf number before [] = []
 rowsOf number before (r ∷ rs) = rowOf number before r ++ rowsOf (number + 1) (before + length r) rs
 
 -- "The listing program reads one block": the first record is number 1, and the block's length word stands before it
-unfoldable pub listingOf : List ℕ → List ℕ
+abbrev pub listingOf : List ℕ → List ℕ
 listingOf block = orRefusal (λ _. rowsOf 1 1 (recordsOf block)) (judged block)

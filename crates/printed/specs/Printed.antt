@@ -18,9 +18,9 @@ pub record Printed (before text after : List ℕ) (end : ℕ) : Type 0 where
   pub counted : end ≡ length (take end after)
 
 -- "A block's text is its records' lines in order"
-unfoldable pub linesPrinted : List ℕ → List ℕ
+abbrev pub linesPrinted : List ℕ → List ℕ
 linesPrinted block = orRefusal (λ _. textOf (recordsOf block)) (judged block)
 
 -- the record words of the text, length word and checksum around them, as bytes
-unfoldable pub blockPrinted : List ℕ → List ℕ
+abbrev pub blockPrinted : List ℕ → List ℕ
 blockPrinted text = orRefusal (λ ws. bytesOf (framed ws)) (readText text)

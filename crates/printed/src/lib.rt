@@ -5,14 +5,14 @@ use units::Words;
 ghost use mathlib.Core.List.{[], _∷_};
 ghost use Prim.Native.Nat.{_≤_, _<_};
 ghost use lib.ListN.{length};
-ghost use Rattle.words.specs.Words.{wordsOf, mostWords, mostRecordWords};
+ghost use Rattle.words.specs.Words.{wordsOf, mostWords};
 ghost use Rattle.words.specs.Writing.{Room, Put};
-ghost use Rattle.record.specs.Rules.{RecordOk};
+ghost use Rattle.block.specs.Rules.{BlockRecord};
 ghost use Rattle.block.specs.Judging.{Accepted};
 ghost use Rattle.block.specs.Records.{recordsOf};
 ghost use Rattle.prefix.specs.Table.{prefixOf};
 ghost use Rattle.report.specs.Text.{behind};
-ghost use Rattle.printed.specs.Listing.{signedOf, lettersOf, rowOf, rowsOf, listingOf};
+ghost use Rattle.printed.specs.Listing.{signedOf, lettersOf, frontOf, rowOf, rowsOf, listingOf};
 ghost use Rattle.printed.specs.Printed.{Printed, linesPrinted, blockPrinted};
 
 // Puts the number that a word stands for in two's complement.
@@ -39,18 +39,26 @@ fn write_instrument(w: u16, out: &mut [u8], at: Bytes) -> Bytes
     words::write_bytes(&[b' ', letters.0, letters.1, letters.2, b'\n'], out, to)
 }
 
-// Puts the line of a good record.
-fn write_row(number: u32, before: Words, whole: &[u8], out: &mut [u8], at: Bytes) -> Bytes
-    requires { ⌜ (before .0 < mostWords) × RecordOk (wordsOf (now whole)) × (length (wordsOf (now whole)) ≤ mostRecordWords) × Room (now out) (at .0) (rowOf number (before .0) (wordsOf (now whole))) ⌝ }
-    ensures { λ r. ⌜ Put (now (out .entry)) (at .0) (rowOf number (before .0) (wordsOf (now (whole .entry)))) (now (out .exit)) (r .0) ⌝ }
+// Puts the line of a good record up to its count of lines.
+fn write_front(number: u32, before: Words, whole: &[u8], out: &mut [u8], at: Bytes) -> Bytes
+    requires { ⌜ (before .0 < mostWords) × BlockRecord (wordsOf (now whole)) × Room (now out) (at .0) (frontOf number (before .0) (wordsOf (now whole))) ⌝ }
+    ensures { λ r. ⌜ Put (now (out .entry)) (at .0) (frontOf number (before .0) (wordsOf (now (whole .entry)))) (now (out .exit)) (r .0) ⌝ }
 {
     let position = (before.0 + 1) as u32;
     let kind = words::word_at(whole, Words(1)) as u32;
     let count = words::count(whole).0 as u32;
     let lines = record::line_count(whole).0 as u32;
-    let instrument = words::word_at(whole, Words(2));
     let to = report::write_number(number, out, at);
-    let to = report::write_spaced(&[position, kind, count, lines], out, to);
+    report::write_spaced(&[position, kind, count, lines], out, to)
+}
+
+// Puts the line of a good record.
+fn write_row(number: u32, before: Words, whole: &[u8], out: &mut [u8], at: Bytes) -> Bytes
+    requires { ⌜ (before .0 < mostWords) × BlockRecord (wordsOf (now whole)) × Room (now out) (at .0) (rowOf number (before .0) (wordsOf (now whole))) ⌝ }
+    ensures { λ r. ⌜ Put (now (out .entry)) (at .0) (rowOf number (before .0) (wordsOf (now (whole .entry)))) (now (out .exit)) (r .0) ⌝ }
+{
+    let instrument = words::word_at(whole, Words(2));
+    let to = write_front(number, before, whole, out, at);
     write_instrument(instrument, out, to)
 }
 

@@ -1,9 +1,9 @@
 -- A turn of the reading: what is still to be read, from here, gives the whole.
 use mathlib.Core.Path.{_≡_, refl, sym, ap, _∙_}
 use mathlib.Core.List.{List, [], _∷_, _++_}
-use Prim.Native.Nat.{ℕ, suc, _+_, _^_, _≤_, _<_}
+use Prim.Native.Nat.{ℕ, suc, _+_, _-_, _^_, _≤_, _<_}
 use native.Mathlib.Omega.{arith}
-use lib.ListN.{length, drop, length-append}
+use lib.ListN.{length, take, drop, length-append}
 use Rattle.units.specs.declared.Words.{Words}
 use Rattle.units.specs.Answers.{Verdict, passed, refused, onward}
 use Rattle.units.proofs.Verdicts.{never-passed}
@@ -14,8 +14,10 @@ use Rattle.read_line.specs.Lines.{readLine, readLines}
 use Rattle.read_first_line.specs.State.{Stand, toCome, put, after, standOf}
 use Rattle.read_text.specs.Content.{stored}
 use Rattle.read_first_line.specs.declared.Plan.{Plan}
+use Rattle.read_first_line.specs.declared.Step.{Step}
 use Rattle.read_first_line.specs.declared.Step.the-variants.{Next, Refused}
-use Rattle.read_cut.specs.Lines.{linesIn}
+use Rattle.read_cut.specs.declared.Cut.{Cut}
+use Rattle.read_cut.specs.Lines.{linesIn, CutAt}
 use Rattle.read_first_line.proofs.Heads.{put-append}
 use Rattle.units.proofs.Told.{Known}
 use Rattle.read_text.specs.Cases.{TextRow}
@@ -31,7 +33,7 @@ kept-both held b ws (refused r) = refl
 
 module _ (num held : ℕ) (rest : List Shape) (l : List ℕ) (ls : List (List ℕ)) (b b′ : List ℕ) where
   -- an accepted line
-  pub turn : (p : Plan) (n : Words) → standOf b′ (Next p n) ≡ after held b (readLine num held rest l) →
+  turn : (p : Plan) (n : Words) → standOf b′ (Next p n) ≡ after held b (readLine num held rest l) →
       stored held b (readLines num held rest (l ∷ ls)) ≡ stored (n .0) b′ (readLines (num + 1) (n .0) (toCome p) ls)
   unfolding readLines
   turn p n e = let s : suc num ≡ num + 1 = omega arith in by (readLine num held rest l) e ∙ ap (λ k. stored (n .0) b′ (readLines k (n .0) (toCome p) ls)) s
@@ -46,7 +48,7 @@ module _ (num held : ℕ) (rest : List Shape) (l : List ℕ) (ls : List (List �
       by (refused r) e = absurd (never-passed (sym e))
 
   -- a refused one
-  pub end : (f : Flaw) → standOf b′ (Refused f) ≡ after held b (readLine num held rest l) → stored held b (readLines num held rest (l ∷ ls)) ≡ refused (flawOf f)
+  end : (f : Flaw) → standOf b′ (Refused f) ≡ after held b (readLine num held rest l) → stored held b (readLines num held rest (l ∷ ls)) ≡ refused (flawOf f)
   unfolding readLines
   end f e = by (readLine num held rest l) e
     where
@@ -56,7 +58,7 @@ module _ (num held : ℕ) (rest : List Shape) (l : List ℕ) (ls : List (List �
       by (refused r) e = cc
 
 -- and there is room for the lines to come, as before it
-pub room-next : (num held : ℕ) (rest : List Shape) (l b b′ : List ℕ) (p : Plan) (n : Words) → num < 2 ^ 24 → RoomToCome held rest
+room-next : (num held : ℕ) (rest : List Shape) (l b b′ : List ℕ) (p : Plan) (n : Words) → num < 2 ^ 24 → RoomToCome held rest
     → standOf b′ (Next p n) ≡ after held b (readLine num held rest l) → RoomToCome (n .0) (toCome p)
 room-next num held rest l b b′ p n hn h e = by (readLine num held rest l) (line-known num hn held l rest h) e
   where
@@ -73,3 +75,28 @@ pub record Reading (text b₀ b : List ℕ) (row : List ℕ) (rest : List Shape)
   pub row-long : length row ≡ 20
   pub lines-most : num ≤ at + 1
   pub room : RoomToCome held rest
+
+-- a turn of the loop, on the line that is cut at its place
+module _ {text b₀ b row : List ℕ} {rest : List Shape} {held num at : ℕ} (g : Reading text b₀ b row rest held num at) {c : Cut} (cut : CutAt text at c) where
+  abbrev line : List ℕ
+  line = take (c .end .0 - at) (drop at text)
+
+  -- with its lines cut the text is read as before
+  same-cut : stored held b (readLines num held rest (line ∷ linesIn (drop (c .next .0) text))) ≡ stored 0 b₀ (readLines 1 0 [] (linesIn text))
+  same-cut = ap (λ x. stored held b (readLines num held rest x)) (sym (cut .cut)) ∙ g .same
+
+  module _ (b′ : List ℕ) (s : Step) (read : standOf b′ s ≡ after held b (readLine num held rest line)) where
+    pub reading-refused : {f : Flaw} → s ≡ Refused f → refused (flawOf f) ≡ stored 0 b₀ (readLines 1 0 [] (linesIn text))
+    reading-refused {f} is = sym (end num held rest line (linesIn (drop (c .next .0) text)) b b′ f (ap (standOf b′) (sym is) ∙ read)) ∙ same-cut
+
+    pub reading-on : {p : Plan} {n : Words} {row′ : List ℕ} → s ≡ Next p n → length text ≤ 65536 → length b′ ≡ length b → length row′ ≡ length row
+        → Reading text b₀ b′ row′ (toCome p) (n .0) (num + 1) (c .next .0)
+    reading-on {p} {n} is small kept-block kept-row =
+        let e : standOf b′ (Next p n) ≡ after held b (readLine num held rest line) = ap (standOf b′) (sym is) ∙ read in
+        record {
+          same = sym (turn num held rest line (linesIn (drop (c .next .0) text)) b b′ p n e) ∙ same-cut;
+          length-kept = kept-block ∙ g .length-kept;
+          row-long = kept-row ∙ g .row-long;
+          lines-most = omega (arith, g .lines-most, cut .onward);
+          room = room-next num held rest line b b′ p n (omega (arith, g .lines-most, cut .onward, cut .inside)) (g .room) e;
+        }

@@ -1,15 +1,19 @@
 -- The call's outcome: a text that was judged, and the block that is written of it.
 use mathlib.Core.Path.{_≡_, refl, sym, ap, _∙_}
-use mathlib.Core.List.{List, []}
+use mathlib.Core.List.{List, [], _++_}
 use Prim.Native.Nat.{ℕ, _+_, _≤_, _<_}
 use native.Mathlib.Nat.{zero-add}
+use native.Mathlib.Omega.{arith}
 use borrow.Author.Tests.{lt-ltb, le-ltb, ltb-false}
 use lib.Dec.{ltb}
-use lib.ListN.{length}
+use lib.ListN.{length, drop}
 use Rattle.units.specs.declared.Words.{Words}
 use Rattle.units.specs.Answers.{answer, Verdict, passed, refused, onward}
 use Rattle.units.proofs.Verdicts.{never-passed, else-passed}
-use Rattle.words.specs.Words.{bytesOf, framed}
+use Rattle.units.specs.Units.{bytesOfWords}
+use Rattle.words.specs.Words.{wordsOf, bytesOf, framed, words}
+use Rattle.words.proofs.Writing.{too-short, all-written}
+use Rattle.words.proofs.Sealing.{sealed-put, length-framed}
 use Rattle.words.specs.Outcomes.{leaves, written}
 use Rattle.read_columns.specs.declared.Flaw.{Flaw}
 use Rattle.read_columns.specs.Cases.{flawOf}
@@ -65,16 +69,31 @@ unfolding readText
 not-long t n a = ltb-false 65536 (length t) (else-passed (ltb 65536 (length t)) (answer 30 0 0 0) _ (a .records) (a .is) .0)
 
 -- the words that are put behind the length word
-pub records-put : (t b b′ : List ℕ) (n : ℕ) (r : Content) (a : HasWords t n) → storedOf b′ r ≡ stored 0 b (readText t) → b′ ≡ put 0 b (a .records)
+records-put : (t b b′ : List ℕ) (n : ℕ) (r : Content) (a : HasWords t n) → storedOf b′ r ≡ stored 0 b (readText t) → b′ ≡ put 0 b (a .records)
 records-put t b b′ n (Records m) a e =
     let k : _≡_ {A = Stored} (record { words = m .0; block = b′ }) (record { words = 0 + length (a .records); block = put 0 b (a .records) }) = let s : storedOf b′ (Records m) ≡ stored 0 b (passed (a .records)) = rw (a .is) at e in cc in
     ap (λ (x : Stored). x .block) k
 records-put t b b′ n (Flawed f) a e = let s : storedOf b′ (Flawed f) ≡ stored 0 b (passed (a .records)) = rw (a .is) at e in absurd (never-passed s)
 
 -- the block that an accepted text gives
-pub block-is : (t out : List ℕ) (n : ℕ) (a : HasWords t n) → toBlock t out ≡ written out (passed (bytesOf (framed (a .records))))
+block-is : (t out : List ℕ) (n : ℕ) (a : HasWords t n) → toBlock t out ≡ written out (passed (bytesOf (framed (a .records))))
 unfolding toBlock
 block-is t out n a = rw (a .is)
+
+-- writing the block of an accepted text, which takes `size` bytes
+module _ (t b : List ℕ) (n : ℕ) (a : HasWords t n) {size : ℕ} (is : size ≡ bytesOfWords (n + 2)) where
+  length-is : size ≡ length (bytesOf (framed (a .records)))
+  length-is = omega (arith, length-framed (a .records), a .count)
+
+  pub block-short : length b < size → leaves (answer 29 size 0 0) b ≡ toBlock t b
+  block-short h = too-short b (bytesOf (framed (a .records))) size length-is h ∙ sym (block-is t b n a)
+
+  -- its words were put behind the length word, and sealed
+  pub block-built : (b′ : List ℕ) (r : Content) {after : List ℕ} → size ≤ length b → storedOf b′ r ≡ stored 0 b (readLines 1 0 [] (linesIn t))
+      → after ≡ bytesOf (framed (words (wordsOf b′) 2 (n + 1))) ++ drop (bytesOfWords (n + 2)) b′ → leaves (answer 0 size 0 0) after ≡ toBlock t b
+  block-built b′ r room read sealed =
+      let p = records-put t b b′ n r a (read ∙ ap (stored 0 b) (sym (line-by-line t (not-long t n a)))) in
+      rw is (all-written b (bytesOf (framed (a .records))) (omega (arith, length-is)) (sealed-put b (a .records) n (a .count) (omega arith) p sealed)) ∙ sym (block-is t b n a)
 
 -- a refused text leaves the block as it is
 pub refused-is : (t out : List ℕ) (f : Flaw) → contentOf (Flawed f) ≡ wordsIn t → leaves (flawOf f) out ≡ toBlock t out

@@ -9,7 +9,6 @@ use borrow.Author.Tests.{ne-eqb}
 use lib.Dec.{eqb}
 use lib.ListN.{length, take, drop, length-append, length-drop}
 use lib.Seq.{length-take-le}
-use Rattle.units.specs.Choice.{if_then_else_}
 use Rattle.units.specs.Units.{linesOfFields}
 use Rattle.words.specs.Words.{word, bytesOf, joined, All, Below}
 use Rattle.words.proofs.Laws.{length-bytesOf}
@@ -23,7 +22,7 @@ use Rattle.line_plan.specs.Plan.{dataPlan, kindShown, shownWords}
 use Rattle.line_plan.proofs.Plans.{fieldsIn, length-plan, fieldsIn-plan}
 use Rattle.write_parts.specs.Laid.{fieldsOf, laid, cardLines, ended}
 use Rattle.write_parts.proofs.Turns.{length-fieldsOf}
-use Rattle.write_lines.specs.Lines.{linesOf}
+use Rattle.write_lines.specs.Lines.{linesOf, columnsIn}
 use Rattle.write_lines.specs.Text.{textOf}
 
 length-laid : (ns ws : List ℕ) → length (laid ns ws) ≡ length ns
@@ -60,9 +59,9 @@ cards-text (suc n) ws h =
       cards-text n (drop 40 ws) (omega (arith, length-drop 40 ws)),
     )
 
--- a record's text: a field is six bytes, a card its words' bytes, and each line has its end
+-- a record's text: the columns of its lines, and their ends
 unfoldable pub sizeOf : List ℕ → ℕ
-sizeOf r = if eqb (word r 2) 1002 then 6 * length r + lineCount r else 120 + (length r - 40) * 2 + lineCount r
+sizeOf r = columnsIn (word r 2) (length r) + lineCount r
 
 -- what is known of a record's lines
 pub record Sized (r : List ℕ) : Type 0 where
@@ -77,7 +76,7 @@ module _ (r : List ℕ) where
     unfolding lineCount
     cards-count = simp e
 
-    pub cards-size : sizeOf r ≡ 120 + (length r - 40) * 2 + lineCount r
+    cards-size : sizeOf r ≡ 120 + (length r - 40) * 2 + lineCount r
     unfolding sizeOf
     cards-size = simp e
 
@@ -139,6 +138,13 @@ record-sized r h = by (h .kind)
     by (catalogue e c) = cards-sized r (ap (λ k. eqb k 1002) e) 13 c
     by (header e c) = cards-sized r (ap (λ k. eqb k 1002) e) 16 c
     by (dataRecord e d) = data-sized r (ap (λ k. eqb k 1002) e) d
+
+-- the size as it is added up
+pub size-read : (r : List ℕ) (kind n columns ends : ℕ) → RecordOk r → kind ≡ word r 2 → n ≡ length r → columns ≡ columnsIn kind n → ends ≡ lineCount r
+    → (columns + ends ≡ length (ended (linesOf r))) × (columns + ends ≤ 7 * length r)
+unfolding sizeOf
+size-read r kind n columns ends h k e c l = let z = record-sized r h in let same : columns ≡ columnsIn (word r 2) (length r) = c ∙ rw (k, e) in
+    (omega (arith, z .bytes), omega (arith, z .size-most))
 
 -- a block's text has fewer than seven bytes for each of its record words
 pub text-size-most : (rs : List (List ℕ)) → All RecordOk rs → 1 ≤ length rs → length (textOf rs) + 15 ≤ 7 * length (joined rs)

@@ -8,13 +8,13 @@ use units::Words;
 ghost use mathlib.Core.Path.{_≡_};
 ghost use Prim.Native.Nat.{_^_, _≤_, _<_};
 ghost use lib.ListN.{length};
-ghost use Rattle.words.specs.Words.{word, wordsOf, mostWords};
+ghost use Rattle.words.specs.Words.{word, wordsOf, mostRecordWords};
 ghost use Rattle.words.specs.Writing.{Room, Put};
 ghost use Rattle.record.specs.Lines.{lineCount};
-ghost use Rattle.record.specs.Rules.{RecordOk};
+ghost use Rattle.block.specs.Rules.{BlockRecord};
 ghost use Rattle.write_parts.specs.Laid.{ended};
 ghost use Rattle.line_plan.specs.Plan.{kindShown};
-ghost use Rattle.write_lines.specs.Lines.{linesOf};
+ghost use Rattle.write_lines.specs.Lines.{linesOf, columnsIn, Writable};
 ghost use Rattle.write_lines.specs.Text.{textOf, toLines};
 ghost use Rattle.write_lines.specs.Cases.{linedOf};
 ghost use Rattle.units.specs.Answers.{passed};
@@ -44,7 +44,7 @@ fn kind_shown(kind: u16) -> u16
 
 // A good record's line count, as its first field shows it.
 fn count_shown(whole: &[u8]) -> u16
-    requires { ⌜ RecordOk (wordsOf (now whole)) × (length (wordsOf (now whole)) ≤ mostWords) ⌝ }
+    requires { ⌜ BlockRecord (wordsOf (now whole)) ⌝ }
     ensures { λ r. ⌜ r ≡ lineCount (wordsOf (now (whole .entry))) ⌝ }
 {
     units::saying_lines(record::line_count(whole))
@@ -52,7 +52,7 @@ fn count_shown(whole: &[u8]) -> u16
 
 // Writes a Data record's lines.
 fn write_data(whole: &[u8], out: &mut [u8], at: Bytes) -> Bytes
-    requires { ⌜ RecordOk (wordsOf (now whole)) × (length (wordsOf (now whole)) ≤ mostWords) × (word (wordsOf (now whole)) 2 ≡ 1002) × Room (now out) (at .0) (ended (linesOf (wordsOf (now whole)))) ⌝ }
+    requires { ⌜ Writable (now whole) (now out) (at .0) × (word (wordsOf (now whole)) 2 ≡ 1002) ⌝ }
     ensures { λ r. ⌜ Put (now (out .entry)) (at .0) (ended (linesOf (wordsOf (now (whole .entry))))) (now (out .exit)) (r .0) ⌝ }
 {
     let lines = count_shown(whole);
@@ -62,7 +62,7 @@ fn write_data(whole: &[u8], out: &mut [u8], at: Bytes) -> Bytes
 
 // Writes a Catalogue's or a Header's lines.
 fn write_carded(whole: &[u8], out: &mut [u8], at: Bytes) -> Bytes
-    requires { ⌜ RecordOk (wordsOf (now whole)) × (length (wordsOf (now whole)) ≤ mostWords) × (word (wordsOf (now whole)) 2 ≡ 1002 → ⊥) × Room (now out) (at .0) (ended (linesOf (wordsOf (now whole)))) ⌝ }
+    requires { ⌜ Writable (now whole) (now out) (at .0) × (word (wordsOf (now whole)) 2 ≡ 1002 → ⊥) ⌝ }
     ensures { λ r. ⌜ Put (now (out .entry)) (at .0) (ended (linesOf (wordsOf (now (whole .entry))))) (now (out .exit)) (r .0) ⌝ }
 {
     let lines = count_shown(whole);
@@ -74,7 +74,7 @@ fn write_carded(whole: &[u8], out: &mut [u8], at: Bytes) -> Bytes
 
 // Writes a good record's lines.
 fn write_record(whole: &[u8], out: &mut [u8], at: Bytes) -> Bytes
-    requires { ⌜ RecordOk (wordsOf (now whole)) × (length (wordsOf (now whole)) ≤ mostWords) × Room (now out) (at .0) (ended (linesOf (wordsOf (now whole)))) ⌝ }
+    requires { ⌜ Writable (now whole) (now out) (at .0) ⌝ }
     ensures { λ r. ⌜ Put (now (out .entry)) (at .0) (ended (linesOf (wordsOf (now (whole .entry))))) (now (out .exit)) (r .0) ⌝ }
 {
     if words::word_at(whole, Words(1)) == record::DATA {
@@ -83,22 +83,30 @@ fn write_record(whole: &[u8], out: &mut [u8], at: Bytes) -> Bytes
     write_carded(whole, out, at)
 }
 
-// The bytes of a good record's text: a field is six columns, a card its words' bytes, and each line has its end.
+// The columns that a record of this kind and size takes in its lines: a field has six, a card its words' bytes.
+fn columns_in(kind: u16, size: Words) -> Bytes
+    requires { ⌜ (size .0 ≤ mostRecordWords) × ((kind ≡ 1002 → ⊥) → 40 ≤ size .0) ⌝ }
+    ensures { λ r. ⌜ r .0 ≡ columnsIn kind (size .0) ⌝ }
+{
+    if kind == record::DATA {
+        return units::columns_of_fields(size);
+    }
+    let behind = size.0 - 40;
+    let fields = units::columns_of_fields(Words(20)).0;
+    let cards = units::bytes_of_words(Words(behind)).0;
+    let columns = fields + cards;
+    Bytes(columns)
+}
+
+// The bytes of a good record's text: the columns of its lines, and their ends.
 fn record_size(whole: &[u8]) -> Bytes
-    requires { ⌜ RecordOk (wordsOf (now whole)) × (length (wordsOf (now whole)) ≤ mostWords) ⌝ }
+    requires { ⌜ BlockRecord (wordsOf (now whole)) ⌝ }
     ensures { λ r. ⌜ r .0 ≡ length (ended (linesOf (wordsOf (now (whole .entry))))) ⌝ }
 {
-    let words = words::count(whole);
     let ends = units::ends_of_lines(record::line_count(whole)).0;
-    if words::word_at(whole, Words(1)) == record::DATA {
-        let columns = units::columns_of_fields(words).0;
-        let size = columns + ends;
-        return Bytes(size);
-    }
-    let behind = words.0 - 40;
-    let columns = units::columns_of_fields(Words(20)).0;
-    let cards = units::bytes_of_words(Words(behind)).0;
-    let size = columns + cards + ends;
+    let kind = words::word_at(whole, Words(1));
+    let columns = columns_in(kind, words::count(whole)).0;
+    let size = columns + ends;
     Bytes(size)
 }
 

@@ -3,7 +3,6 @@ use record::Counts;
 use units::Bytes;
 use units::Lines;
 use units::Words;
-ghost use mathlib.Core.Path.{_≡_};
 ghost use mathlib.Core.List.{[], _∷_, _++_};
 ghost use Prim.Native.Nat.{_+_, _*_, _≤_};
 ghost use lib.ListN.{length, take, drop};

@@ -39,7 +39,7 @@ returns c = done (loop-end (c .before .before .before .loop .inv) (c .before .be
 
 write-row-requires : tie.Need-write-row-requires Inv-loop μ-loop
 write-row-requires c κs = let t = found (c .before) in let l = c .before .before .before .before .loop in
-    (omega (arith, t), t .ok, omega (arith, t .size, t .most), fits (t .holds .going) (rowOf (l .number) (l .at) (wordsOf (now (c .before .before .before .record-at .result)))) _ (rows-on _ _ _ _ (t .others) (t .size)) (c .before .before .before .before .before .before .before .pre .1))
+    (omega (arith, t), t .good, fits (t .holds .going) (rowOf (l .number) (l .at) (wordsOf (now (c .before .before .before .record-at .result)))) _ (rows-on _ _ _ _ (t .others) (t .size)) (c .before .before .before .before .before .before .before .pre .1))
 
 loop-again : tie.Need-loop-again Inv-loop μ-loop
 loop-again c = let t = found (c .before .before .before .before) in

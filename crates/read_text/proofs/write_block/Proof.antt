@@ -1,65 +1,43 @@
 use denote.Ref.{now}
-use mathlib.Core.Path.{_≡_, sym, ap, _∙_}
-use Prim.Native.Nat.{_+_, _*_, _≤_}
+use Prim.Native.Nat.{_≤_}
 use native.Mathlib.Omega.{arith}
-use lib.ListN.{length}
-use Rattle.words.specs.Words.{bytesOf, framed, mostRecordWords}
-use Rattle.words.proofs.Writing.{too-short, all-written}
-use Rattle.words.proofs.Sealing.{sealed-put, length-framed}
-use Rattle.read_text.specs.Content.{stored}
+use Rattle.words.specs.Words.{mostRecordWords}
 use Rattle.read_text.proofs.Known.{words-room}
-use Rattle.read_text.proofs.Outcome.{HasWords, has-words, not-long, records-put, block-is, line-by-line}
+use Rattle.read_text.proofs.Outcome.{HasWords, has-words, not-long, block-short, block-built}
 use borrow.Author.Needs.{needs}
 use Rattle.read_text.proofs.write_block.Statement.{statement}
 use Rattle.read_text.proofs.write_block.Tie as tie
 
--- back from one place to another
-abbrev start-before-bytes-of-words : tie.After-bytes-of-words → tie.Start
-start-before-bytes-of-words c = c .before .before .before .before
-
-abbrev bytes-of-words-before-block : tie.After-block → tie.After-bytes-of-words
-bytes-of-words-before-block c = c .before .before .before .before
+-- back from behind the test to the start
+abbrev start-before-else1 : tie.Else1 → tie.Start
+start-before-else1 c = c .before .before .before .before .before
 
 -- the text was accepted, with at most 7,998 record words
-given : (c : tie.Start) → HasWords (now (c .args .text)) (c .args .records .0)
-given c = has-words (now (c .args .text)) (c .args .records) (c .pre)
+given : (s : tie.Start) → HasWords (now (s .args .text)) (s .args .records .0)
+given s = has-words (now (s .args .text)) (s .args .records) (s .pre)
 
-most : (c : tie.Start) → c .args .records .0 ≤ mostRecordWords
-most c = let a = given c in omega (arith, a .count, words-room (now (c .args .text)) (a .records) (a .is) .1)
-
-add-all : tie.Need-add-all
-add-all c = omega (arith, most (c .before .before .before))
-
-bytes-of-words-requires : tie.Need-bytes-of-words-requires
-bytes-of-words-requires c κs = omega (arith, most (c .before .before .before))
+most : (s : tie.Start) → s .args .records .0 ≤ mostRecordWords
+most s = let a = given s in omega (arith, a .count, words-room (now (s .args .text)) (a .records) (a .is) .1)
 
 returns : tie.Need-returns
-returns c = let a = given (start-before-bytes-of-words (c .before)) in let b = now (start-before-bytes-of-words (c .before) .args .block) in
-    too-short b (bytesOf (framed (a .records))) (c .before .bytes-of-words .result .0) (omega (arith, c .before .bytes-of-words .ensures, length-framed (a .records), a .count)) (c .if1 .taken)
-    ∙ sym (block-is (now (start-before-bytes-of-words (c .before) .args .text)) b (start-before-bytes-of-words (c .before) .args .records .0) a)
-
-read-lines-requires : tie.Need-read-lines-requires
-read-lines-requires c κs = not-long (now (start-before-bytes-of-words (c .before .before) .args .text)) (start-before-bytes-of-words (c .before .before) .args .records .0) (given (start-before-bytes-of-words (c .before .before)))
+returns c = let w = c .before in block-short _ _ _ (given (w .before .before .before .before)) (w .bytes-of-words .ensures) (c .if1 .taken)
 
 seal-requires : tie.Need-seal-requires
-seal-requires c κs = let b = c .before .before .before .read-lines .last .1 .0 in let kept-length : length b ≡ length (now (start-before-bytes-of-words (bytes-of-words-before-block (c .before .before)) .args .block)) = c .before .before .before .read-lines .kept .1 .0 in
-    (most (start-before-bytes-of-words (bytes-of-words-before-block (c .before .before))), omega (arith, kept-length, c .before .before .before .before .before .if1 .left, bytes-of-words-before-block (c .before .before) .bytes-of-words .ensures))
+seal-requires c κs = let r = c .before .before .before in let e = r .before .before in
+    (most (start-before-else1 e), omega (arith, r .read-lines .kept .1 .0, e .if1 .left, e .before .bytes-of-words .ensures))
 
 returns-2 : tie.Need-returns-2
-returns-2 c = let s = c .before .before .before .before .before .before .before .before .before .before .before .before .before in let a = given s in let t = now (s .args .text) in let b = now (s .args .block) in let n = s .args .records .0 in
-    let room : (n + 2) * 2 ≤ length b = omega (arith, c .before .before .before .before .before .before .before .before .if1 .left, c .before .before .before .before .before .before .before .before .before .bytes-of-words .ensures) in
-    let long : length (bytesOf (framed (a .records))) ≤ length b = omega (arith, room, length-framed (a .records), a .count) in
-    let read = records-put t b (c .before .before .before .before .before .before .read-lines .last .1 .0) n (c .before .before .before .before .before .before .read-lines .result) a (c .before .before .before .before .before .before .read-lines .ensures ∙ ap (stored 0 b) (sym (line-by-line t (not-long t n a)))) in
-    rw (c .before .before .before .before .before .before .before .before .before .bytes-of-words .ensures) (all-written b (bytesOf (framed (a .records))) long (sealed-put b (a .records) n (a .count) room read (c .before .before .seal .ensures))) ∙ sym (block-is t b n a)
+returns-2 c = let s = c .before .before in let r = s .before .before .before .before in let e = r .before .before in
+    block-built _ _ _ (given (start-before-else1 e)) (e .before .bytes-of-words .ensures) _ (r .read-lines .result) (e .if1 .left) (r .read-lines .ensures) (s .seal .ensures)
 
 pub write-block-spec : {M : Type 1} → statement M
 write-block-spec =
     tie.close
     (tie.spec
-    add-all
-    bytes-of-words-requires
+    (λ c. omega (arith, most (c .before .before .before)))
+    (λ c κs. omega (arith, most (c .before .before .before)))
     returns
-    read-lines-requires
+    (λ c κs. let s = start-before-else1 (c .before) in not-long (now (s .args .text)) _ (given s))
     seal-requires
     (λ c. search needs)
     returns-2)

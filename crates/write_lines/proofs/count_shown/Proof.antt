@@ -11,6 +11,6 @@ pub count-shown-spec : {M : Type 1} → statement M
 count-shown-spec =
     tie.close
     (tie.spec
-    (λ c κs. ok-long (wordsOf (now (c .before .args .whole))) (c .before .pre .0))
-    (λ c κs. let s = c .before .before in omega (arith, c .line-count .ensures, record-sized (wordsOf (now (s .args .whole))) (s .pre .0) .count-most))
+    (λ c κs. ok-long (wordsOf (now (c .before .args .whole))) (c .before .pre .ok))
+    (λ c κs. let s = c .before .before in omega (arith, c .line-count .ensures, record-sized (wordsOf (now (s .args .whole))) (s .pre .ok) .count-most))
     (λ c. c .saying-lines .ensures ∙ c .before .line-count .ensures))

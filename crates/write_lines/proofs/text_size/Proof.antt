@@ -49,7 +49,7 @@ unfolding textOf
 returns c = omega (arith, loop-end (c .before .before .before .loop .inv) (c .before .before .record-at .ensures) (c .before .count .ensures) (c .if1 .taken))
 
 record-size-requires : tie.Need-record-size-requires Inv-loop μ-loop
-record-size-requires c κs = let t = found c in (t .ok, omega (arith, t .size, t .most))
+record-size-requires c κs = found c .good
 
 loop-again : tie.Need-loop-again Inv-loop μ-loop
 loop-again c = loop-on (found (c .before .before)) (counted (c .before))

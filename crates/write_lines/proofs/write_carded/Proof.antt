@@ -19,7 +19,7 @@ abbrev ws : tie.Start → List ℕ
 ws s = wordsOf (now (s .args .whole))
 
 cards : (s : tie.Start) → Cards (ws s)
-cards s = is-cards (ws s) (s .pre .0) (s .pre .2)
+cards s = is-cards (ws s) (s .pre .0 .good .ok) (s .pre .1)
 
 -- the first line, and the cards
 abbrev start : tie.After-struct-known → tie.Start
@@ -36,7 +36,7 @@ lines-are k = k .before .lines-said .ensures .0 ∙ k .before .before .before .b
 
 pieces : (k : tie.After-struct-known) → ended (linesOf (ws (start k))) ≡ head k ++ behind k
 pieces k =
-    cards-are (ws (start k)) _ _ _ (start k .pre .2) (k .before .before .before .before .count-shown .ensures)
+    cards-are (ws (start k)) _ _ _ (start k .pre .1) (k .before .before .before .before .count-shown .ensures)
     (k .before .before .kind-shown .ensures ∙ ap kindShown (k .before .before .before .word-at .ensures)) (ap (λ n. n - 1) (lines-are k))
 
 sub-cards : tie.Need-sub-cards
@@ -44,15 +44,15 @@ sub-cards c = let k = cards (start c) in omega (arith, lines-are c, k .count, k 
 
 write-head-requires : tie.Need-write-head-requires
 write-head-requires c κs = let k = c .before in let s = start k in
-    (omega arith, omega (arith, cards s .least), first-fits (now (s .args .out)) _ (head k) (behind k) (pieces k) (s .pre .3))
+    (omega arith, omega (arith, cards s .least), first-fits (now (s .args .out)) _ (head k) (behind k) (pieces k) (s .pre .0 .room))
 
 write-cards-requires : tie.Need-write-cards-requires
 write-cards-requires c κs = let h = c .before .before .before in let k = h .before .before in let s = start k in let q = cards s in
-    (omega (arith, lines-are k, q .count, q .whole, q .least), second-fits _ _ (head k) (behind k) (pieces k) (s .pre .3) (h .write-head .ensures))
+    (omega (arith, lines-are k, q .count, q .whole, q .least), second-fits _ _ (head k) (behind k) (pieces k) (s .pre .0 .room) (h .write-head .ensures))
 
 returns : tie.Need-returns
 returns c = let w = c .before .before in let h = w .before .before .before .before in let k = h .before .before in
-    both-put _ _ (head k) (behind k) (pieces k) (start k .pre .3) (h .write-head .ensures) (w .write-cards .ensures)
+    both-put _ _ (head k) (behind k) (pieces k) (start k .pre .0 .room) (h .write-head .ensures) (w .write-cards .ensures)
 
 pub write-carded-spec : {M : Type 1} → statement M
 write-carded-spec =

@@ -11,8 +11,8 @@ pub write-record-spec : {M : Type 1} → statement M
 write-record-spec =
     tie.close
     (tie.spec
-    (λ c κs. let s = c .before .before in omega (arith, ok-long (wordsOf (now (s .args .whole))) (s .pre .0)))
-    (λ c κs. let w = c .before .before in let p = w .before .before .before .pre in (p .0, p .1, sym (w .word-at .ensures) ∙ c .before .if1 .taken, p .2))
+    (λ c κs. let s = c .before .before in omega (arith, ok-long (wordsOf (now (s .args .whole))) (s .pre .good .ok)))
+    (λ c κs. let w = c .before .before in (w .before .before .before .pre, sym (w .word-at .ensures) ∙ c .before .if1 .taken))
     (λ c. search needs) (λ c. search needs)
-    (λ c κs. let w = c .before .before in let p = w .before .before .before .pre in (p .0, p .1, (λ e. c .before .if1 .left (w .word-at .ensures ∙ e)), p .2))
+    (λ c κs. let w = c .before .before in (w .before .before .before .pre, λ e. c .before .if1 .left (w .word-at .ensures ∙ e)))
     (λ c. search needs) (λ c. search needs))

@@ -35,7 +35,7 @@ returns c = done (loop-end (c .before .before .before .loop .inv) (c .before .be
 write-record-requires : tie.Need-write-record-requires Inv-loop μ-loop
 unfolding textOf
 write-record-requires c κs = let t = found (c .before) in
-    (t .ok, omega (arith, t .size, t .most), fits (t .holds) (ended (linesOf (wordsOf (now (c .before .before .before .record-at .result))))) (textOf (t .others)) refl (c .before .before .before .before .before .before .before .pre .1))
+    record { good = t .good; room = fits (t .holds) (ended (linesOf (wordsOf (now (c .before .before .before .record-at .result))))) (textOf (t .others)) refl (c .before .before .before .before .before .before .before .pre .1) }
 
 loop-again : tie.Need-loop-again Inv-loop μ-loop
 unfolding textOf
