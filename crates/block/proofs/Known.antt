@@ -1,5 +1,5 @@
 -- The numbers of a block's answer: listed, and with room in the packing.
-use mathlib.Core.Path.{_≡_}
+use mathlib.Core.Path.{_≡_, sym, ap, _∙_}
 use mathlib.Core.Bool.{Bool, true, false, not}
 use mathlib.Core.List.{List, [], _∷_}
 use Prim.Native.Nat.{ℕ, zero, suc, _+_, _-_, _^_, _≤_, _<_}
@@ -23,9 +23,15 @@ use Rattle.words.specs.Scans.{passing, someFails, isZero}
 use Rattle.record.specs.Counts.{countsOf, wordsNeeded, inRange}
 use Rattle.record.specs.Judging.{cardWord, wrongTotal, wrongDataTotal, judgeContent, judgeCards, judgeCounts, judgeData, judgeRecord}
 use Rattle.record.proofs.Passed.{total-right}
-use Rattle.block.specs.Cases.{BlockRow}
-use Rattle.block.specs.Judging.{wrongSize, inner, checksumOf, walk, judged}
+use Rattle.block.specs.Cases.{BlockRow, judgedOf}
+use Rattle.block.specs.declared.Judged.{Judged}
+use Rattle.block.specs.declared.Judged.the-variants.{Records}
+use Rattle.block.specs.Judging.{wrongSize, inner, checksumOf, walk, judged, Accepted}
 use Rattle.block.proofs.Size.{size-right}
+
+-- what the judge returned, of a block that it accepts
+pub accepted-by : (b : List ℕ) {j : Judged} {k : ℕ} → judgedOf j ≡ judged b → j ≡ Records k → Accepted b
+accepted-by b e is = record { count = _; is = sym e ∙ ap judgedOf is }
 
 -- the answer of the judge: its number is one of the paper's, and the others have room
 abbrev pub KnownBlock : Verdict ℕ → Type 0

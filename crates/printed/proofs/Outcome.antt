@@ -18,6 +18,7 @@ use Rattle.block.specs.declared.Refusal.{Refusal}
 use Rattle.block.specs.declared.Judged.{Judged}
 use Rattle.block.specs.declared.Judged.the-variants.{Records, Refused}
 use Rattle.block.specs.Records.{recordsOf}
+use Rattle.block.proofs.Known.{accepted-by}
 use Rattle.write_lines.specs.Text.{textOf}
 use Rattle.write_lines.proofs.Sizes.{text-bound}
 use Rattle.read_text.specs.Block.{readText, toBlock}
@@ -53,7 +54,7 @@ module _ {A : Type 0} (f : A → List ℕ) {v : Verdict A} {out : List ℕ} (h :
 -- of a block: a text for all its records, or the line of its refusal
 module _ (text b : List ℕ) {out : List ℕ} {j : Judged} (h : Room out 0 (orRefusal (λ _. text) (judged b))) (e : judgedOf j ≡ judged b) where
   pub accepted-prints : {k : ℕ} → j ≡ Records k → Accepted b × Prints out (orRefusal (λ _. text) (judged b)) text
-  accepted-prints is = let p = sym e ∙ ap judgedOf is in (record { count = _; is = p }, prints-passed (λ _. text) h p)
+  accepted-prints is = let a = accepted-by b e is in (a, prints-passed (λ _. text) h (a .is))
 
   pub refused-prints : {r : Refusal} {s : Answer} → j ≡ Refused r → s ≡ refusalOf r → Prints out (orRefusal (λ _. text) (judged b)) (refusalLine s)
   refused-prints is says = prints-refused (λ _. text) h (sym e ∙ ap judgedOf is) says

@@ -1,13 +1,17 @@
 -- The outcome of block to lines, by what the judge says.
 use mathlib.Core.Logic.{_⊎_, inl, inr}
-use mathlib.Core.Path.{_≡_, refl}
+use mathlib.Core.Path.{_≡_, refl, sym, ap, _∙_}
 use mathlib.Core.List.{List}
 use Prim.Native.Nat.{ℕ}
 use native.Mathlib.Omega.{arith}
 use Rattle.units.specs.declared.Answer.{Answer}
 use Rattle.units.specs.Answers.{Verdict, passed, refused, Packs}
-use Rattle.words.specs.Outcomes.{written, leaves}
+use Rattle.words.specs.Outcomes.{Written, written, leaves}
 use Rattle.block.specs.Judging.{judged}
+use Rattle.block.specs.Cases.{judgedOf, refusalOf}
+use Rattle.block.specs.declared.Refusal.{Refusal}
+use Rattle.block.specs.declared.Judged.{Judged}
+use Rattle.block.specs.declared.Judged.the-variants.{Records, Refused}
 use Rattle.block.specs.Records.{recordsOf}
 use Rattle.block.proofs.Known.{KnownBlock, judged-known}
 use Rattle.words.specs.Words.{Below}
@@ -16,13 +20,21 @@ use Rattle.write_lines.proofs.Sizes.{text-bound}
 use Rattle.write_lines.specs.Cases.{LinesRow}
 use Rattle.write_lines.specs.Text.{textOf, toLines}
 
-pub when-refused : (b out : List ℕ) (r : Answer) → judged b ≡ refused r → toLines b out ≡ leaves r out
+when-refused : (b out : List ℕ) (r : Answer) → judged b ≡ refused r → toLines b out ≡ leaves r out
 unfolding toLines written
 when-refused b out r e = rw e
 
 pub when-accepted : (b out : List ℕ) (k : ℕ) → judged b ≡ passed k → toLines b out ≡ written out (passed (textOf (recordsOf b)))
 unfolding toLines
 when-accepted b out k e = rw e
+
+-- the same, by what the judge returned
+module _ (b out : List ℕ) {j : Judged} (e : judgedOf j ≡ judged b) where
+  pub lines-refused : {r : Refusal} → j ≡ Refused r → leaves (refusalOf r) out ≡ toLines b out
+  lines-refused is = sym (when-refused b out _ (sym e ∙ ap judgedOf is))
+
+  pub lines-accepted : {k : ℕ} {w : Written} → j ≡ Records k → w ≡ written out (passed (textOf (recordsOf b))) → w ≡ toLines b out
+  lines-accepted is put = put ∙ sym (when-accepted b out _ (sym e ∙ ap judgedOf is))
 
 -- the answer's numbers: with 0 and 29 at most 55,971 bytes
 pub outcome-told : (b out : List ℕ) → Below 256 b → ((toLines b out .answer .n ≡ 0) ⊎ LinesRow (toLines b out .answer .n)) × Packs (toLines b out .answer)

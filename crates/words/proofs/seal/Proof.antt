@@ -1,5 +1,8 @@
+use Prim.Native.Nat.{_+_, _≤_}
 use Rattle.words.proofs.Sealing.{sealed}
 use Rattle.words.proofs.Laws.{length-wordsOf, all-below}
+use Rattle.words.specs.Words.{wordsOf}
+use lib.ListN.{length}
 use native.Mathlib.Omega.{arith}
 use denote.Ref.{now}
 use borrow.Author.Needs.{needs}
@@ -7,33 +10,32 @@ use Rattle.words.proofs.seal.Statement.{statement}
 use Rattle.words.proofs.seal.Tie as tie
 
 -- back from one place to another
+abbrev start-before-put-word : tie.After-put-word → tie.Start
+start-before-put-word c = c .before .before .before .before
+
 abbrev put-word-before-exclusive-or : tie.After-exclusive-or → tie.After-put-word
 put-word-before-exclusive-or c = c .before .before .before .before .before
 
-abbrev start-before-block2 : tie.After-block2 → tie.Start
-start-before-block2 c = put-word-before-exclusive-or (c .before .before .before) .before .before .before .before
+-- the block has room for all its words, also behind the length word
+room : (s : tie.Start) → s .args .records .0 + 2 ≤ length (wordsOf (now (s .args .block)))
+room s = omega (arith, length-wordsOf (now (s .args .block)), s .pre .1)
 
-put-word-requires : tie.Need-put-word-requires
-put-word-requires c κs = omega (arith, length-wordsOf (now (c .before .before .before .args .block)), c .before .before .before .pre .1)
-
-span-requires : tie.Need-span-requires
-span-requires c κs = (omega arith, omega (arith, length-wordsOf (c .before .before .before .put-word .last .0), c .before .before .before .put-word .kept .0, c .before .before .before .before .before .before .before .pre .1))
-
-put-word-requires-2 : tie.Need-put-word-requires-2
-put-word-requires-2 c κs = omega (arith, length-wordsOf (put-word-before-exclusive-or (c .before) .put-word .last .0), put-word-before-exclusive-or (c .before) .put-word .kept .0, put-word-before-exclusive-or (c .before) .before .before .before .before .pre .1)
+room-2 : (c : tie.After-put-word) → start-before-put-word c .args .records .0 + 2 ≤ length (wordsOf (c .put-word .last .0))
+room-2 c = omega (arith, length-wordsOf (c .put-word .last .0), c .put-word .kept .0, start-before-put-word c .pre .1)
 
 returns : tie.Need-returns
-returns c = let w = put-word-before-exclusive-or (c .before .before .before .before) in let b = now (start-before-block2 (c .before) .args .block) in
-    sealed b (start-before-block2 (c .before) .args .records .0) (start-before-block2 (c .before) .pre .1) (all-below 256 b (λ i. omega (arith, w .before .before .before .slice-known .given i))) (rw (← w .before .saying-words .ensures) (w .put-word .ensures)) (c .before .before .before .before .before .span .ensures) (c .before .before .before .before .exclusive-or .ensures) (c .before .before .put-word2 .ensures)
+returns c = let x = c .before .before .before .before in let w = put-word-before-exclusive-or x in let s = start-before-put-word w in let b = now (s .args .block) in
+    sealed b _ (s .pre .1) (all-below 256 b (λ i. omega (arith, w .before .before .before .slice-known .given i)))
+    (rw (← w .before .saying-words .ensures) (w .put-word .ensures)) (x .before .span .ensures) (x .exclusive-or .ensures) (c .before .before .put-word2 .ensures)
 
 pub seal-spec : {M : Type 1} → statement M
 seal-spec =
     tie.close
     (tie.spec
     (λ c. search needs) (λ c. search needs) (λ c κs. omega arith)
-    put-word-requires
-    span-requires
+    (λ c κs. omega (arith, room (c .before .before .before)))
+    (λ c κs. (omega arith, omega (arith, room-2 (c .before .before .before))))
     (λ c κs. search needs)
-    put-word-requires-2
+    (λ c κs. omega (arith, room-2 (put-word-before-exclusive-or (c .before))))
     (λ c. search needs)
     returns)

@@ -1,26 +1,21 @@
-use Rattle.write_lines.proofs.Outcome.{when-refused, when-accepted}
-use Rattle.block.specs.Cases.{judgedOf}
-use denote.Ref.{now}
-use mathlib.Core.Path.{sym, ap, _∙_}
+use Rattle.write_lines.proofs.Outcome.{lines-refused, lines-accepted}
+use Rattle.block.proofs.Known.{accepted-by}
 use borrow.Author.Needs.{needs}
 use Rattle.write_lines.proofs.to_lines.Statement.{statement}
 use Rattle.write_lines.proofs.to_lines.Tie as tie
 
-write-text-requires : tie.Need-write-text-requires
-write-text-requires c κs = record { count = _; is = sym (c .before .before .before .judge .ensures) ∙ ap judgedOf (c .before .enum-told .given .1) }
-
 returns : tie.Need-returns
-returns c = sym (when-refused (now (c .before .before .before .before .before .before .args .block)) (now (c .before .before .before .before .before .before .args .text)) _ (sym (c .before .before .before .judge .ensures) ∙ ap judgedOf (c .before .r .given .1)))
+returns c = lines-refused _ _ (c .before .before .before .judge .ensures) (c .before .r .given .1)
 
 returns-2 : tie.Need-returns-2
-returns-2 c = c .before .before .write-text .ensures ∙ sym (when-accepted (now (c .before .before .before .before .before .before .before .before .before .args .block)) (now (c .before .before .before .before .before .before .before .before .before .args .text)) _ (sym (c .before .before .before .before .before .before .judge .ensures) ∙ ap judgedOf (c .before .before .before .before .enum-told .given .1)))
+returns-2 c = let w = c .before .before in lines-accepted _ _ (w .before .before .before .before .judge .ensures) (w .before .before .enum-told .given .1) (w .write-text .ensures)
 
 pub to-lines-spec : {M : Type 1} → statement M
 to-lines-spec =
     tie.close
     (tie.spec
     (λ c κs. search needs) (λ c. search needs) (λ c. search needs)
-    write-text-requires
+    (λ c κs. accepted-by _ (c .before .before .before .judge .ensures) (c .before .enum-told .given .1))
     returns
     (λ c. search needs)
     returns-2)
