@@ -17,18 +17,19 @@ use Rattle.words.proofs.Laws.{words-slice}
 use Rattle.record.specs.Rules.{RecordOk}
 use Rattle.record.specs.Values.{isValue}
 use Rattle.record.proofs.Values.{ValueAt, value-at}
-use Rattle.block.specs.Steps.{recordAt, findOf, placed}
+use Rattle.block.specs.Steps.{placeOf, findOf, placed}
 use Rattle.block.specs.Judging.{Accepted}
 use Rattle.block.specs.Records.{recordsOf}
 use Rattle.block.specs.declared.Place.{Place}
 use Rattle.block.specs.declared.Place.the-variants.{Record, NoMore}
 use Rattle.block.proofs.Placed.{others-left, first-left, find-record}
 use Rattle.sheet.specs.Sheets.{Entry}
-use Rattle.amending.specs.Places.{recordNumber, wordNumber, recordIn, noRecord, valueIn, valuePlace}
+use Rattle.amending.specs.Places.{recordNumber, wordNumber, recordIn, noRecord}
+use Rattle.amending.specs.Between.{valueIn, valuePlace}
 use Rattle.amending.proofs.Named.{is-record}
 
 -- of records that stand one after the other: none where there is no such number, or this one behind the others
-placed-is : (rs : List (List ℕ)) (at n : ℕ) → placed rs at n ≡ (if noRecord rs n then NoMore else recordAt (at + length (joined (take (n - 1) rs))) (length (recordIn rs n)))
+placed-is : (rs : List (List ℕ)) (at n : ℕ) → placed rs at n ≡ (if noRecord rs n then NoMore else placeOf (at + length (joined (take (n - 1) rs))) (length (recordIn rs n)))
 unfolding placed noRecord joined
 placed-is [] at zero = refl
 placed-is [] at (suc n) = simp (eqb·suc-zero n, lt-ltb 0 (suc n) (omega arith))
@@ -50,13 +51,13 @@ pub record Located (b : List ℕ) (n : ℕ) (place size : Words) : Type 0 where
   pub most : length (wordsOf b) ≤ mostWords
 
 module _ (b : List ℕ) (bytes : Below 256 b) (accepted : Accepted b) (n : ℕ) (p : Place) (q : p ≡ findOf (wordsOf b) 1 n) where
-  found-is : p ≡ (if noRecord (recordsOf b) n then NoMore else recordAt (1 + length (joined (take (n - 1) (recordsOf b)))) (length (recordIn (recordsOf b) n)))
+  found-is : p ≡ (if noRecord (recordsOf b) n then NoMore else placeOf (1 + length (joined (take (n - 1) (recordsOf b)))) (length (recordIn (recordsOf b) n)))
   found-is = q ∙ find-record b (accepted .count) bytes (accepted .is) n ∙ placed-is (recordsOf b) 1 n
 
   found-none : p ≡ NoMore → noRecord (recordsOf b) n ≡ true
   found-none e = by (noRecord (recordsOf b) n) _ _ (sym e ∙ found-is)
     where
-      by : (t : Bool) (at size : ℕ) → NoMore ≡ (if t then NoMore else recordAt at size) → t ≡ true
+      by : (t : Bool) (at size : ℕ) → NoMore ≡ (if t then NoMore else placeOf at size) → t ≡ true
       by true at size f = refl
       by false at size f = cc
 
@@ -66,7 +67,7 @@ module _ (b : List ℕ) (bytes : Below 256 b) (accepted : Accepted b) (n : ℕ) 
       before : List (List ℕ)
       before = take (n - 1) (recordsOf b)
 
-      by : (t : Bool) → noRecord (recordsOf b) n ≡ t → Record place size ≡ (if t then NoMore else recordAt (1 + length (joined before)) (length (recordIn (recordsOf b) n))) → Located b n place size
+      by : (t : Bool) → noRecord (recordsOf b) n ≡ t → Record place size ≡ (if t then NoMore else placeOf (1 + length (joined before)) (length (recordIn (recordsOf b) n))) → Located b n place size
       by true none f = let z : _≡_ {A = ℕ} 0 1 = cc in absurd (omega arith)
       by false some f =
           let r = recordIn (recordsOf b) n in

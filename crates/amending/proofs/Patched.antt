@@ -22,8 +22,8 @@ use Rattle.block.specs.Judging.{Accepted}
 use Rattle.block.specs.Records.{recordsOf}
 use Rattle.block.proofs.Exact.{frame-of, only-good, words-are}
 use Rattle.sheet.specs.Sheets.{Entry}
-use Rattle.amending.specs.Places.{recordNumber, wordNumber, recordIn, noRecord, noValue, found, valuePlace, withValue, patched}
-use Rattle.amending.specs.Between.{Exchanged}
+use Rattle.amending.specs.Places.{recordNumber, wordNumber, recordIn, noRecord, noValue, found, withValue}
+use Rattle.amending.specs.Between.{Exchanged, valuePlace, patched}
 use Rattle.amending.specs.declared.Objection.{Objection}
 use Rattle.amending.specs.declared.Spot.{Spot}
 use Rattle.amending.specs.declared.Spot.the-variants.{Value, Refused}

@@ -12,7 +12,8 @@ use Rattle.units.specs.declared.Answer.{Answer}
 use Rattle.units.specs.Answers.{answer, Verdict, passed, refused, onward}
 use Rattle.units.proofs.Verdicts.{never-passed}
 use Rattle.sheet.specs.Sheets.{Layout, Entry}
-use Rattle.amending.specs.Places.{recordNumber, oldValue, newValue, noRecord, noValue, found, valuePlace, withValue, stands}
+use Rattle.amending.specs.Places.{recordNumber, oldValue, newValue, noRecord, noValue, found, withValue, stands}
+use Rattle.amending.specs.Between.{valuePlace}
 use Rattle.amending.specs.Amending.{Both, both, amendable, undoable, lastOf, othersOf}
 use Rattle.amending.proofs.Named.{Named, named-there}
 

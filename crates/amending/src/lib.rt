@@ -15,10 +15,9 @@ ghost use Rattle.block.specs.Judging.{judged, Accepted};
 ghost use Rattle.block.specs.Records.{recordsOf};
 ghost use Rattle.sheet.specs.Sheets.{version1, opened};
 ghost use Rattle.sheet.specs.Cases.{entryOf};
-ghost use Rattle.amending.specs.Places.{valueIn, valuePlace, patched};
 ghost use Rattle.amending.specs.Amending as spec;
 ghost use Rattle.amending.specs.Amending.{buffers};
-ghost use Rattle.amending.specs.Between.{Ready, Exchanged};
+ghost use Rattle.amending.specs.Between.{Ready, Exchanged, valueIn, valuePlace, patched};
 ghost use Rattle.amending.specs.Cases.{objectionOf, amendedOf, spotOf};
 
 // Why an amendment or its undoing is refused.

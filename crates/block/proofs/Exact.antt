@@ -27,7 +27,7 @@ use Rattle.block.proofs.Walk.{walk-on, walk-end}
 -- ---- the records
 
 -- the records that a walk accepts: they keep the rules, and are all that there is
-pub record CutInto (ws : List ℕ) (rs : List (List ℕ)) (n k : ℕ) : Type 0 where
+record CutInto (ws : List ℕ) (rs : List (List ℕ)) (n k : ℕ) : Type 0 where
   pub each : All RecordOk rs
   pub parts : joined rs ≡ ws
   pub count : n + length rs ≡ k + 1
@@ -173,7 +173,7 @@ frame-ok b k e =
       records = x .1;
     }
 
-pub ok-frame : (b : List ℕ) (k : ℕ) → FrameOk b k → judged b ≡ passed k
+ok-frame : (b : List ℕ) (k : ℕ) → FrameOk b k → judged b ≡ passed k
 unfolding judged
 ok-frame b k f =
     let ws = wordsOf b in
@@ -185,7 +185,7 @@ below-inner b h =
     all-drop (λ w. w < 65536) 1 (take (length ws - 1) ws) (all-take (λ w. w < 65536) (length ws - 1) ws (words-below b h))
 
 -- the records of an accepted block
-pub cut-of : (b : List ℕ) (k : ℕ) → Below 256 b → FrameOk b k → CutInto (inner (wordsOf b)) (recordsOf b) 1 k
+cut-of : (b : List ℕ) (k : ℕ) → Below 256 b → FrameOk b k → CutInto (inner (wordsOf b)) (recordsOf b) 1 k
 unfolding recordsOf
 cut-of b k h f = walked 0 1 k (inner (wordsOf b)) (omega arith) (below-inner b h) (f .records)
 

@@ -9,7 +9,7 @@ use Rattle.words.proofs.Laws.{words-bytes}
 use Rattle.block.specs.Rules.{BlockRecord}
 use Rattle.block.specs.Judging.{Accepted}
 use Rattle.block.specs.Records.{recordsOf}
-use Rattle.block.specs.Steps.{wordsAt, recordFrom}
+use Rattle.block.specs.Steps.{wordsAt, recordAt}
 use Rattle.block.proofs.Placed.{LeftFrom, first-left, none-left, all-left}
 
 -- the loop has come to a place: the records that are left there, and what holds of them
@@ -34,9 +34,9 @@ pub loop-start : (b : List ℕ) → Below 256 b → Accepted b → {P : List (Li
 loop-start b bytes a h = record { rest = recordsOf b; left = all-left b (a .count) bytes (a .is); holds = h }
 
 module _ {b : List ℕ} {at : ℕ} {P : List (List ℕ) → Type 0} (l : Loop b at P) {part : List ℕ} {n : ℕ}
-    (lent : part ≡ bytesOf (recordFrom (wordsOf b) at)) (size : n ≡ length (wordsOf part)) where
-  its-words : wordsOf part ≡ recordFrom (wordsOf b) at
-  its-words = ap wordsOf lent ∙ words-bytes (recordFrom (wordsOf b) at)
+    (lent : part ≡ bytesOf (recordAt (wordsOf b) at)) (size : n ≡ length (wordsOf part)) where
+  its-words : wordsOf part ≡ recordAt (wordsOf b) at
+  its-words = ap wordsOf lent ∙ words-bytes (recordAt (wordsOf b) at)
 
   is-first : {r : List ℕ} {rs : List (List ℕ)} → LeftFrom (wordsOf b) at (r ∷ rs) → wordsOf part ≡ r
   is-first left = its-words ∙ ap (wordsAt (wordsOf b)) (first-left left .found) ∙ first-left left .words

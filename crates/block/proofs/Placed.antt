@@ -17,7 +17,7 @@ use Rattle.record.specs.Rules.{RecordOk}
 use Rattle.block.specs.declared.Place.the-variants.{NoMore}
 use Rattle.block.specs.Judging.{judged}
 use Rattle.block.specs.Records.{recordsOf}
-use Rattle.block.specs.Steps.{recordAt, stepOf, past, findOf, placed}
+use Rattle.block.specs.Steps.{placeOf, stepOf, past, findOf, placed}
 use Rattle.block.proofs.Exact.{ok-long, frame-ok, only-good, words-are}
 
 -- the word at a place is the first of the record that stands there
@@ -37,7 +37,7 @@ pub record FirstOfLeft (ws : List ℕ) (at : ℕ) (r : List ℕ) (rs : List (Lis
   pub ok : RecordOk r
   pub long : 16 ≤ length r
   pub within : at + length r < length ws
-  pub found : stepOf ws at ≡ recordAt at (length r)
+  pub found : stepOf ws at ≡ placeOf at (length r)
   pub words : slice at (at + length r) ws ≡ r
   pub left : LeftFrom ws (at + length r) rs
 
@@ -92,7 +92,7 @@ finds ws [] at (suc n) l = rw (none-left l) (by (eqb n 0))
 finds ws (r ∷ rs) at zero l = refl
 finds ws (r ∷ rs) at (suc n) l =
     let f = first-left l in
-    rw (f .found) (ap (λ s. if eqb n 0 then recordAt at (length r) else s) (finds ws rs (at + length r) n (f .left)))
+    rw (f .found) (ap (λ s. if eqb n 0 then placeOf at (length r) else s) (finds ws rs (at + length r) n (f .left)))
 
 -- behind some of them the others are left
 left-behind : (ws : List ℕ) (before after : List (List ℕ)) (at : ℕ) → LeftFrom ws at (before ++ after) → LeftFrom ws (at + length (joined before)) after
@@ -112,7 +112,7 @@ module _ (b : List ℕ) (k : ℕ) (bytes : Below 256 b) (accepted : judged b ≡
   others-left before after e = left-behind (wordsOf b) before after 1 (rw e at all-left)
 
   pub step-record : (before after : List (List ℕ)) (r : List ℕ) → recordsOf b ≡ before ++ r ∷ after
-      → stepOf (wordsOf b) (1 + length (joined before)) ≡ recordAt (1 + length (joined before)) (length r)
+      → stepOf (wordsOf b) (1 + length (joined before)) ≡ placeOf (1 + length (joined before)) (length r)
   step-record before after r e = first-left (others-left before (r ∷ after) e) .found
 
   pub step-no-more : stepOf (wordsOf b) (1 + length (joined (recordsOf b))) ≡ NoMore

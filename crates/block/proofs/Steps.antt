@@ -13,7 +13,7 @@ use Rattle.units.proofs.Verdicts.{or-off}
 use Rattle.units.specs.declared.Words.{Words}
 use Rattle.block.specs.declared.Place.{Place}
 use Rattle.block.specs.declared.Place.the-variants.{Record, NoMore}
-use Rattle.block.specs.Steps.{recordAt, stepOf, past, findOf}
+use Rattle.block.specs.Steps.{placeOf, stepOf, past, findOf}
 
 -- behind the last word stands nothing
 pub step-beyond : (ws : List ℕ) (at : ℕ) → length ws ≤ at → stepOf ws at ≡ NoMore
@@ -31,7 +31,7 @@ unfolding stepOf
 step-found ws at place size e = by (eqb (getD ws at 0) 0 || ltb (length ws - 1 - at) (getD ws at 0)) refl e
   where
     by : (t : Bool) → (eqb (getD ws at 0) 0 || ltb (length ws - 1 - at) (getD ws at 0)) ≡ t
-        → (if t then NoMore else recordAt at (getD ws at 0)) ≡ Record place size → FoundBefore ws at (place .0) (size .0)
+        → (if t then NoMore else placeOf at (getD ws at 0)) ≡ Record place size → FoundBefore ws at (place .0) (size .0)
     by true f g = let z : _≡_ {A = ℕ} 0 1 = cc in absurd (omega arith)
     by false f g =
         let o = or-off (eqb (getD ws at 0) 0) _ f in

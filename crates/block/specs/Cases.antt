@@ -12,7 +12,7 @@ use Rattle.block.specs.declared.Judged.the-variants.{Records, Refused}
 abbrev pub BlockRow : ℕ → Type 0
 BlockRow n = (1 ≤ n) × (n ≤ 9)
 
--- which of them each refusal is
+-- rows 1 to 9: which of them each refusal is
 abbrev pub refusalOf : Refusal → Answer
 refusalOf Size = answer 1 0 0 0
 refusalOf WordCount = answer 2 0 0 0

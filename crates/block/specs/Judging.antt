@@ -30,9 +30,9 @@ walk skip n [] = passed (n - 1)
 walk zero n (w ∷ ws) = onward (judgeRecord n (w ∷ ws)) (λ k. walk (k - 1) (n + 1) ws)
 walk (suc skip) n (w ∷ ws) = walk skip n ws
 
--- row 3, "then each record": the words of a block whose size and length word are right
-abbrev pub summed : List ℕ → Verdict ℕ
-summed ws =
+-- row 3: "checksum wrong", "then each record", of a block whose size and length word are right
+abbrev pub judgeWords : List ℕ → Verdict ℕ
+judgeWords ws =
     let stored = word ws (length ws) in
     if not (eqb stored (checksumOf ws)) then refused (answer 3 0 0 (ones (bitXor stored (checksumOf ws)))) else walk 0 1 (inner ws)
 
@@ -42,7 +42,7 @@ judged b =
     let ws = wordsOf b in
     if wrongSize (length b) then refused (answer 1 0 0 0)
     else if not (eqb (word ws 1) (length ws)) then refused (answer 2 0 0 0)
-    else summed ws
+    else judgeWords ws
 
 -- a block that is accepted, with `count` records
 pub record Accepted (b : List ℕ) : Type 0 where

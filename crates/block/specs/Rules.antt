@@ -3,12 +3,12 @@ use mathlib.Core.Path.{_≡_}
 use mathlib.Core.List.{List}
 use Prim.Native.Nat.{ℕ, _≤_}
 use lib.ListN.{length}
-use Rattle.words.specs.Words.{bytesOf, joined, framed, All, mostRecordWords}
+use Rattle.words.specs.Words.{joined, All, mostRecordWords, blockFrom}
 use Rattle.record.specs.Rules.{RecordOk}
 
 -- the records' words end to end, length word and checksum around them, as bytes
 abbrev pub blockOf : List (List ℕ) → List ℕ
-blockOf rs = bytesOf (framed (joined rs))
+blockOf rs = blockFrom (joined rs)
 
 -- a good record that is no longer than a block's records may be
 pub record BlockRecord (r : List ℕ) : Type 0 where

@@ -10,14 +10,14 @@ use Rattle.block.specs.declared.Place.{Place}
 use Rattle.block.specs.declared.Place.the-variants.{Record, NoMore}
 
 -- a record with `at` words before it and `size` of its own
-abbrev pub recordAt : ℕ → ℕ → Place
-recordAt at size = Record (record { 0 = at }) (record { 0 = size })
+abbrev pub placeOf : ℕ → ℕ → Place
+placeOf at size = Record (record { 0 = at }) (record { 0 = size })
 
 -- the word there is LTOT; no more where it is 0 or runs past the last record word
 unfoldable pub stepOf : List ℕ → ℕ → Place
 stepOf ws at =
     if eqb (getD ws at 0) 0 || ltb (length ws - 1 - at) (getD ws at 0) then NoMore
-    else recordAt at (getD ws at 0)
+    else placeOf at (getD ws at 0)
 
 -- the words at a place: none where there is no more
 abbrev pub wordsAt : List ℕ → Place → List ℕ
@@ -25,8 +25,8 @@ wordsAt ws (Record at size) = slice (at .0) (at .0 + size .0) ws
 wordsAt ws NoMore = []
 
 -- the record that stands behind `at` words: no words where none does
-abbrev pub recordFrom : List ℕ → ℕ → List ℕ
-recordFrom ws at = wordsAt ws (stepOf ws at)
+abbrev pub recordAt : List ℕ → ℕ → List ℕ
+recordAt ws at = wordsAt ws (stepOf ws at)
 
 -- on from a record to the place after it
 abbrev pub past : Place → (ℕ → Place) → Place
@@ -42,4 +42,4 @@ findOf ws at (suc n) = if eqb n 0 then stepOf ws at else past (stepOf ws at) (λ
 unfoldable pub placed : List (List ℕ) → ℕ → ℕ → Place
 placed [] at n = NoMore
 placed (r ∷ rs) at zero = NoMore
-placed (r ∷ rs) at (suc n) = if eqb n 0 then recordAt at (length r) else placed rs (at + length r) n
+placed (r ∷ rs) at (suc n) = if eqb n 0 then placeOf at (length r) else placed rs (at + length r) n

@@ -9,9 +9,9 @@ ghost use Prim.Native.Nat.{_<_, _≤_};
 ghost use lib.ListN.{length};
 ghost use Rattle.units.specs.Answers.{answered};
 ghost use Rattle.words.specs.Words.{wordsOf, bytesOf, mostWords};
-ghost use Rattle.block.specs.Judging.{wrongSize, walk, summed, judged};
+ghost use Rattle.block.specs.Judging.{wrongSize, walk, judgeWords, judged};
 ghost use Rattle.block.specs.Cases.{refusalOf, judgedOf};
-ghost use Rattle.block.specs.Steps.{stepOf, recordFrom, findOf};
+ghost use Rattle.block.specs.Steps.{stepOf, recordAt, findOf};
 
 // Why a block is refused: its frame, or one of its records.
 pub enum Refusal {
@@ -73,7 +73,7 @@ fn judge_records(inner: &[u8]) -> Judged
 // Judges the checksum and the records of a block whose size and length word are right.
 fn judge_words(block: &[u8]) -> Judged
     requires { ⌜ (18 ≤ length (wordsOf (now block))) × (length (wordsOf (now block)) ≤ mostWords) ⌝ }
-    ensures { λ r. ⌜ judgedOf r ≡ summed (wordsOf (now (block .entry))) ⌝ }
+    ensures { λ r. ⌜ judgedOf r ≡ judgeWords (wordsOf (now (block .entry))) ⌝ }
 {
     let end = words::count(block).0 - 1;
     let last = Words(end);
@@ -145,7 +145,7 @@ pub fn step(block: &[u8], at: Words) -> Place
 
 // The record with `at` words of the block before it, lent as a part of the block; an empty part where none stands there.
 pub fn record_at(block: &[u8], at: Words) -> &[u8]
-    ensures { λ r. ⌜ now r ≡ bytesOf (recordFrom (wordsOf (now (block .entry))) (at .0)) ⌝ }
+    ensures { λ r. ⌜ now r ≡ bytesOf (recordAt (wordsOf (now (block .entry))) (at .0)) ⌝ }
 {
     let Place::Record(place, size) = step(block, at) else {
         return &block[..0];

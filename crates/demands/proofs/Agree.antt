@@ -184,12 +184,12 @@ flawIn (built.Refused f) = f
 flawIn (built.Short size) = Long
 
 contentCase : Verdict ℕ → Content
-contentCase (passed n) = text.Records (record { 0 = n })
+contentCase (passed n) = text.RecordWords (record { 0 = n })
 contentCase (refused r) = Flawed (flawIn (builtCase r))
 
 content-back : (r : Content) → contentCase (contentOf r) ≡ r
 unfolding contentCase flawIn
-content-back (text.Records n) = refl
+content-back (text.RecordWords n) = refl
 content-back (Flawed f) = ap (λ x. Flawed (flawIn x)) (built-back (built.Refused f))
 
 pub content-agrees : ContentAgrees

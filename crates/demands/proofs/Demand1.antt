@@ -1,17 +1,18 @@
 -- Demand 1 holds.
 use mathlib.Core.Path.{_≡_, refl, ap, sym}
 use mathlib.Core.Logic.{_⊎_, inl, inr}
-use mathlib.Core.Bool.{Bool, true, false, cond, _&&_, not}
+use mathlib.Core.Bool.{Bool, true, false, _&&_, not}
 use mathlib.Core.List.{List, [], _∷_}
 use Prim.Native.Nat.{ℕ, _-_, _^_, _≤_, _<_}
 use native.Mathlib.Omega.{arith}
 use borrow.Author.Tests.{ltb-true, leb-false}
 use lib.Dec.{ltb, eqb, leb}
 use lib.ListN.{length, length-append, length-take}
+use Rattle.units.specs.Choice.{if_then_else_}
 use Rattle.units.specs.Answers.{answer, Verdict, passed, refused, onward, Packs}
 use Rattle.units.proofs.Packing.{taken-apart}
 use Rattle.units.proofs.Verdicts.{and-on, never-passed}
-use Rattle.words.specs.Words.{bytesOf, framed, All, Below}
+use Rattle.words.specs.Words.{All, Below, blockFrom}
 use Rattle.words.specs.Outcomes.{Written, written, leaves}
 use Rattle.words.proofs.Writing.{written-either}
 use Rattle.block.specs.Cases.{BlockRow}
@@ -64,7 +65,7 @@ beside-bytes (row ∷ rows) code other e o =
     let a = and-on (bytes (row .1)) (each rows) e in
     by (eqb (row .0) code) (a .0) (beside-bytes rows code other (a .1) o)
   where
-    by : (t : Bool) → bytes (row .1) ≡ true → bytes (beside rows code other) ≡ true → bytes (cond t (row .1) (beside rows code other)) ≡ true
+    by : (t : Bool) → bytes (row .1) ≡ true → bytes (beside rows code other) ≡ true → bytes (if t then row .1 else beside rows code other) ≡ true
     by true p q = p
     by false p q = q
 
@@ -115,7 +116,7 @@ pub block-answers : BlockAnswers
 unfolding toBlock
 block-answers text block =
     let t = answer-told text block in
-    ((t .listed, taken-apart (toBlock text block .answer) (t .packs)), kept block (onward (readText text) (λ ws. passed (bytesOf (framed ws)))))
+    ((t .listed, taken-apart (toBlock text block .answer) (t .packs)), kept block (onward (readText text) (λ ws. passed (blockFrom ws))))
 
 -- ---- the calls on a sheet, and on a block and its sheet: rows 40 to 46
 

@@ -6,7 +6,7 @@ use borrow.Author.Tests.{le-ltb}
 use lib.ListN.{length, drop}
 use lib.Seq.{take-append-seam}
 use Rattle.units.specs.Answers.{passed, answer, Verdict, refused, onward}
-use Rattle.words.specs.Words.{wordsOf, framed, joined}
+use Rattle.words.specs.Words.{wordsOf, framed, joined, blockFrom}
 use Rattle.words.specs.Outcomes.{written, Written, leaves}
 use Rattle.words.proofs.Laws.{words-bytes}
 use Rattle.block.specs.Judging.{inner, judged, Accepted}
@@ -15,7 +15,7 @@ use Rattle.block.proofs.Exact.{only-good, every-good, its-records, frame-of}
 use Rattle.write_lines.specs.Text.{textOf, toLines}
 use Rattle.write_lines.proofs.Outcome.{when-accepted}
 use Rattle.read_text.specs.Block.{readText, toBlock}
-use Rattle.demands.specs.Demand2.{AcceptedExactly, OneWay, bytesIn, wrote, blockFrom, standard, LinesRead, BlockLinesBlock, TextGivesBlock, WrittenAccepted, LinesBlockLines, StandardRead, StandardStays, OneStandard}
+use Rattle.demands.specs.Demand2.{AcceptedExactly, OneWay, bytesIn, wrote, standard, LinesRead, BlockLinesBlock, TextGivesBlock, WrittenAccepted, LinesBlockLines, StandardRead, StandardStays, OneStandard}
 use Rattle.demands.proofs.Standard.{text-back}
 use Rattle.demands.proofs.Sound.{its-text}
 use mathlib.Core.Logic.{_⊎_, inl, inr}

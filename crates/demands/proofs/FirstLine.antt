@@ -2,7 +2,7 @@
 use Rattle.record.proofs.Values.{is-data}
 use mathlib.Core.Path.{_≡_, refl, sym, ap, ap₂, _∙_}
 use mathlib.Core.List.{List, [], _∷_, _++_, map}
-use Prim.Native.Nat.{ℕ, suc, _+_, _-_, _*_, _≤_, _<_, min}
+use Prim.Native.Nat.{ℕ, suc, _+_, _-_, _*_, _≤_, min}
 use native.Mathlib.Omega.{arith}
 use borrow.Author.Tests.{le-ltb, eq-eqb}
 use lib.Dec.{ltb, eqb}
@@ -131,13 +131,9 @@ module _ (num held a b : ℕ) (ws : List ℕ) where
       room : q ≤ length ws
       room = omega (arith, d .sum)
 
-      -- a count stands where it stood, where m words behind the first two are kept
-      at : (m i : ℕ) → i < m → getD (take m ws) i 0 ≡ getD ws i 0
-      at m i k = getD-take m ws i 0 k
-
-      -- so do the counts
+      -- the counts stand where they stood, where m words behind the first two are kept
       counts-at : (m : ℕ) → 14 ≤ m → countsOf (count ∷ (1101 ∷ take m ws)) ≡ countsOf it
-      counts-at m k = rw (at m 10 (omega arith), at m 11 (omega arith), at m 12 (omega arith), at m 13 (omega arith))
+      counts-at m k = rw (getD-take m ws 10 0 (omega arith), getD-take m ws 11 0 (omega arith), getD-take m ws 12 0 (omega arith), getD-take m ws 13 0 (omega arith))
 
       counts-in : countsIn num (count ∷ (1101 ∷ take 14 ws)) ≡ passed (count ∷ (1101 ∷ take 14 ws))
       unfolding countsIn

@@ -15,7 +15,7 @@ use Rattle.words.proofs.Lists.{all-append, all-replicate}
 use Rattle.words.proofs.Laws.{length-bytesOf}
 use Rattle.words.proofs.Stores.{sets-left, sets-right}
 use Rattle.record.specs.declared.Counts.{Counts}
-use Rattle.record.specs.Counts.{countsOf}
+use Rattle.record.specs.Counts.{countsOf, linesNeeded}
 use Rattle.record.specs.Lines.{lineCount}
 use Rattle.record.specs.Rules.{KindOk, catalogue, header, dataRecord, RecordOk}
 use Rattle.block.specs.Rules.{blockOf, IsBlock}
@@ -23,6 +23,7 @@ use Rattle.block.proofs.Exact.{every-good, its-records}
 use Rattle.field.specs.Writing.{fieldOf}
 use Rattle.field.proofs.Written.{length-fieldOf}
 use Rattle.write_parts.specs.Laid.{fieldsOf, laid, cardLines, ended}
+use Rattle.record.proofs.FourCounts.{counts-set}
 use Rattle.line_plan.specs.Plan.{shorter, part, times, plan, dataPlan, shownWords}
 use Rattle.write_parts.proofs.Turns.{length-fieldsOf}
 use Rattle.line_plan.proofs.Plans.{fieldsIn, length-plan, fieldsIn-plan}
@@ -213,19 +214,16 @@ ends-le (n ∷ ns) j = by (ltb j n) (ends-le ns (j - n))
 
 -- a word of a Data record behind its counts
 module _ (r : List ℕ) (h : RecordOk r) (kind : word r 2 ≡ 1002) (j v : ℕ) (low : 16 ≤ j) (high : j < length r) where
-  same : (i : ℕ) → i < 16 → getD (set r j v) i 0 ≡ getD r i 0
-  same i l = getD-set-other r j i v 0 (λ e. omega arith)
-
   kind-same : word (set r j v) 2 ≡ 1002
-  kind-same = same 1 (omega arith) ∙ kind
+  kind-same = getD-set-other r j 1 v 0 (λ e. omega arith) ∙ kind
 
   plan-same : dataPlan (set r j v) ≡ dataPlan r
-  plan-same = rw (same 12 (omega arith), same 13 (omega arith), same 14 (omega arith), same 15 (omega arith)) refl
+  plan-same = ap plan (counts-set r j v low)
 
   count-same : lineCount (set r j v) ≡ lineCount r
   count-same =
       data-count (set r j v) (ap (λ k. eqb k 1002) kind-same)
-      ∙ rw (same 12 (omega arith), same 13 (omega arith), same 14 (omega arith), same 15 (omega arith)) (sym (data-count r (ap (λ k. eqb k 1002) kind)))
+      ∙ ap linesNeeded (counts-set r j v low) ∙ sym (data-count r (ap (λ k. eqb k 1002) kind))
 
   abbrev head : List ℕ → List ℕ
   head t = lineCount r ∷ (1101 ∷ t)

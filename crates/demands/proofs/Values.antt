@@ -14,7 +14,7 @@ use Rattle.units.specs.Units.{columnsOfFields, endsOfLines}
 use Rattle.record.specs.Counts.{countsOf, wordsNeeded}
 use Rattle.record.specs.Rules.{CountsOk, dataRecord, RecordOk}
 use Rattle.record.specs.Values.{amongValues, isValue}
-use Rattle.record.proofs.FourCounts.{counts-same}
+use Rattle.record.proofs.FourCounts.{counts-set}
 use Rattle.line_plan.specs.Plan.{plan}
 use Rattle.record.proofs.Values.{is-data}
 use Rattle.write_lines.specs.Columns.{endsBefore, columnsBefore}
@@ -32,23 +32,22 @@ pub record ValueWord (r : List ℕ) (j : ℕ) : Type 0 where
   pub low : 16 ≤ j
   pub high : j < length r
 
--- the first 16 words stay, whatever is put there
+-- the kind and the counts stay, whatever is put there
 module _ (r : List ℕ) (j v : ℕ) (h : ValueWord r j) where
-  same : (i : ℕ) → i < 16 → getD (set r j v) i 0 ≡ getD r i 0
-  same i l = getD-set-other r j i v 0 (λ e. omega (arith, h .low))
+  same-kind : word (set r j v) 2 ≡ word r 2
+  same-kind = getD-set-other r j 1 v 0 (λ e. omega (arith, h .low))
 
-  -- so do the counts
   same-counts : countsOf (set r j v) ≡ countsOf r
-  same-counts = counts-same (set r j v) r (λ i low high. same i high)
+  same-counts = counts-set r j v (h .low)
 
   -- and the record is good again
   set-ok : v < 65536 → RecordOk (set r j v)
   set-ok fits =
       let d = is-data r (h .ok) (h .kind) in
       record {
-        total = same 0 (omega arith) ∙ h .ok .total ∙ sym (length-set r j v);
+        total = getD-set-other r j 0 v 0 (λ e. omega (arith, h .low)) ∙ h .ok .total ∙ sym (length-set r j v);
         kind =
-            dataRecord (same 1 (omega arith) ∙ h .kind)
+            dataRecord (same-kind ∙ h .kind)
             (record { counts = subst (λ c. CountsOk c) (sym same-counts) (d .counts); sum = length-set r j v ∙ d .sum ∙ ap wordsNeeded (sym same-counts) });
         sized = all-set (λ w. w < 65536) r j v fits (h .ok .sized);
       }
@@ -61,7 +60,7 @@ Steady f = (r : List ℕ) (j v : ℕ) → ValueWord r j → f (set r j v) ≡ f 
 
 steady-value : (w : ℕ) → Steady (λ r. isValue r w)
 unfolding isValue
-steady-value w r j v h = rw (same r j v h 1 (omega arith)) (ap (λ c. eqb (word r 2) 1002 && amongValues c w) (same-counts r j v h))
+steady-value w r j v h = rw (same-kind r j v h) (ap (λ c. eqb (word r 2) 1002 && amongValues c w) (same-counts r j v h))
 
 pub steady-columns : (i : ℕ) → Steady (λ r. columnsBefore r i)
 steady-columns i r j v h = ap (λ c. columnsOfFields i + endsOfLines (endsBefore (plan c) i)) (same-counts r j v h)

@@ -6,7 +6,7 @@ use mathlib.Core.List.{List, _++_}
 use Prim.Native.Nat.{ℕ, _≤_}
 use lib.ListN.{length, take, drop}
 use Rattle.units.specs.Answers.{answer, passed}
-use Rattle.words.specs.Words.{bytesOf, joined, framed, All, Below, mostRecordWords}
+use Rattle.words.specs.Words.{joined, All, Below, mostRecordWords, blockFrom}
 use Rattle.words.specs.Outcomes.{Written, leaves}
 use Rattle.record.specs.Rules.{RecordOk}
 use Rattle.block.specs.Judging.{judged, Accepted}
@@ -32,15 +32,11 @@ OneWay = (b : List ℕ) (rs ss : List (List ℕ)) → IsBlock b rs → IsBlock b
 abbrev pub bytesIn : Written → List ℕ
 bytesIn w = take (w .answer .a) (w .out)
 
--- "Success is n = 0 with a = bytes written": these bytes at the head of the output, and the others stay
+-- "Success is n = 0 with a = ... bytes written": these bytes at the head of the output, and the others stay
 abbrev pub wrote : List ℕ → List ℕ → Written
 wrote bytes out = leaves (answer 0 (length bytes) 0 0) (bytes ++ drop (length bytes) out)
 
--- the block that the words of a text make
-abbrev pub blockFrom : List ℕ → List ℕ
-blockFrom ws = bytesOf (framed ws)
-
--- and its lines
+-- the lines of the block that the words of a text make
 abbrev pub standard : List ℕ → List ℕ
 standard ws = textOf (recordsOf (blockFrom ws))
 

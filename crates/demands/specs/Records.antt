@@ -7,13 +7,13 @@ use Rattle.words.specs.Words.{wordsOf, joined, Below}
 use Rattle.block.specs.declared.Place.the-variants.{NoMore}
 use Rattle.block.specs.Judging.{Accepted}
 use Rattle.block.specs.Records.{recordsOf}
-use Rattle.block.specs.Steps.{recordAt, stepOf, findOf, placed}
+use Rattle.block.specs.Steps.{placeOf, stepOf, findOf, placed}
 
 -- behind word 1 and the records before it, a step finds each record, with its size
 abbrev pub StepFinds : Type 0
 StepFinds =
     (b : List ℕ) → Below 256 b → Accepted b → (before after : List (List ℕ)) (r : List ℕ) → recordsOf b ≡ before ++ r ∷ after →
-    stepOf (wordsOf b) (1 + length (joined before)) ≡ recordAt (1 + length (joined before)) (length r)
+    stepOf (wordsOf b) (1 + length (joined before)) ≡ placeOf (1 + length (joined before)) (length r)
 
 -- and behind the last record, no more
 abbrev pub StepEnds : Type 0

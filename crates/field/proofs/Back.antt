@@ -16,7 +16,7 @@ use Rattle.field.specs.declared.Scan.{Scan}
 use Rattle.field.specs.declared.Scan.the-variants.{Blank, Sign, Digits}
 use Rattle.field.specs.Writing.{blanks, fieldOf}
 use Rattle.field.specs.Putting.{sixOf}
-use Rattle.field.specs.Reading.{digitOf, afterColumn, finishOf, scanOf, readField}
+use Rattle.field.specs.Reading.{withDigit, afterColumn, finishOf, scanOf, readField}
 use Rattle.field.proofs.Putting.{plain, with-minus}
 use Rattle.field.proofs.Columns.{first-digit}
 
@@ -29,15 +29,15 @@ scan-blanks zero l = refl
 scan-blanks (suc n) l = scan-blanks n l
 
 -- the last digit, after the value of those before it
-read-digit : (minus : Bool) (n : ℕ) → digitOf minus (n / 10) (digit n) ≡ Digits minus n
+read-digit : (minus : Bool) (n : ℕ) → withDigit minus (n / 10) (digit n) ≡ Digits minus n
 read-digit minus n =
     let e : n / 10 * 10 + (48 + n % 10 - 48) ≡ n = omega arith in
     simp (le-leb 48 (48 + n % 10) (omega arith), le-leb (48 + n % 10) 57 (omega arith), e)
 
 -- where a first digit may stand, the digits of a number are read as that number
-module _ (minus : Bool) (from : Scan) (first : (n : ℕ) → afterColumn from (digit n) ≡ digitOf minus 0 (digit n)) where
+module _ (minus : Bool) (from : Scan) (first : (n : ℕ) → afterColumn from (digit n) ≡ withDigit minus 0 (digit n)) where
   scan-one : (n : ℕ) → n < 10 → scanOf from (digit n ∷ []) ≡ Digits minus n
-  scan-one n h = let e : 0 ≡ n / 10 = omega arith in first n ∙ ap (λ m. digitOf minus m (digit n)) e ∙ read-digit minus n
+  scan-one n h = let e : 0 ≡ n / 10 = omega arith in first n ∙ ap (λ m. withDigit minus m (digit n)) e ∙ read-digit minus n
 
   scan-decimal : (most n : ℕ) → n < 10 ^ suc most → scanOf from (decimal (suc most) n) ≡ Digits minus n
   unfolding decimal
@@ -47,8 +47,8 @@ module _ (minus : Bool) (from : Scan) (first : (n : ℕ) → afterColumn from (d
       (λ t. scan-one n (ltb-true n 10 t))
       (λ t. rw (scan-append, scan-decimal most (n / 10) (omega (arith, pow-suc 10 (suc most)))) (read-digit minus n))
 
-first-of-all : (n : ℕ) → afterColumn Blank (digit n) ≡ digitOf false 0 (digit n)
-first-of-all n = sym (first-digit Blank (digit n) refl (digitOf false 0 (digit n)) (λ e. omega arith) (λ e. omega arith) (λ e. omega arith) refl)
+first-of-all : (n : ℕ) → afterColumn Blank (digit n) ≡ withDigit false 0 (digit n)
+first-of-all n = sym (first-digit Blank (digit n) refl (withDigit false 0 (digit n)) (λ e. omega arith) (λ e. omega arith) (λ e. omega arith) refl)
 
 read-six : (lead n : ℕ) → readField (sixOf lead n) ≡ finishOf (scanOf (afterColumn Blank lead) (decimal 5 n))
 unfolding readField sixOf

@@ -14,18 +14,18 @@ use Rattle.field.specs.declared.Number.{Number}
 use Rattle.field.specs.declared.Number.the-variants.{Bad}
 use Rattle.field.specs.declared.Scan.{Scan}
 use Rattle.field.specs.declared.Scan.the-variants.{Blank, Sign, Digits, Spoiled}
-use Rattle.field.specs.Reading.{digitOf, afterColumn, finishOf, scanOf, readField, columns, soFar}
+use Rattle.field.specs.Reading.{withDigit, afterColumn, finishOf, scanOf, readField, columns, soFar}
 
 -- ---- one column
 
 -- a digit, by the number that it is above 48, wrapped
 module _ (minus : Bool) (m b d : ℕ) (wraps : (d + 48) % 2 ^ 32 ≡ b) (fits : d < 2 ^ 32) where
-  pub some-digit : d ≤ 9 → Digits minus (m * 10 + d) ≡ digitOf minus m b
+  pub some-digit : d ≤ 9 → Digits minus (m * 10 + d) ≡ withDigit minus m b
   some-digit k =
       let e : b - 48 ≡ d = omega arith in
       simp (le-leb 48 b (omega arith), le-leb b 57 (omega arith), e)
 
-  pub no-digit : 9 < d → Spoiled ≡ digitOf minus m b
+  pub no-digit : 9 < d → Spoiled ≡ withDigit minus m b
   no-digit k = by-test (λ s. Spoiled ≡ s) (leb 48 b && leb b 57) (Digits minus (m * 10 + (b - 48))) Spoiled
       (λ t. let h = and-on (leb 48 b) (leb b 57) t in absurd (omega (arith, leb-true 48 b (h .0), leb-true b 57 (h .1))))
       (λ _. refl)
@@ -41,14 +41,14 @@ module _ (s : Scan) (b : ℕ) (e : s ≡ Blank) where
   pub a-plus : b ≡ 43 → Sign false ≡ afterColumn s b
   a-plus h = rw (e, h)
 
-  pub first-digit : (r : Scan) → (b ≡ 32 → ⊥) → (b ≡ 45 → ⊥) → (b ≡ 43 → ⊥) → r ≡ digitOf false 0 b → r ≡ afterColumn s b
+  pub first-digit : (r : Scan) → (b ≡ 32 → ⊥) → (b ≡ 45 → ⊥) → (b ≡ 43 → ⊥) → r ≡ withDigit false 0 b → r ≡ afterColumn s b
   first-digit r h k l d = rw e (simp (ne-eqb b 32 h, ne-eqb b 45 k, ne-eqb b 43 l) d)
 
 module _ (s r : Scan) (minus : Bool) (b : ℕ) where
-  pub after-sign : s ≡ Sign minus → r ≡ digitOf minus 0 b → r ≡ afterColumn s b
+  pub after-sign : s ≡ Sign minus → r ≡ withDigit minus 0 b → r ≡ afterColumn s b
   after-sign e d = rw e d
 
-  pub after-digits : (m : ℕ) → s ≡ Digits minus m → r ≡ digitOf minus m b → r ≡ afterColumn s b
+  pub after-digits : (m : ℕ) → s ≡ Digits minus m → r ≡ withDigit minus m b → r ≡ afterColumn s b
   after-digits m e d = rw e d
 
 -- ---- the value stays small
@@ -56,7 +56,7 @@ module _ (s r : Scan) (minus : Bool) (b : ℕ) where
 pub digits-small : (s : Scan) (minus : Bool) (m : ℕ) → s ≡ Digits minus m → soFar s < 100000 → m < 100000
 digits-small s minus m e h = rw e at h
 
-digit-grows : (minus : Bool) (m b : ℕ) → soFar (digitOf minus m b) ≤ m * 10 + 9
+digit-grows : (minus : Bool) (m b : ℕ) → soFar (withDigit minus m b) ≤ m * 10 + 9
 digit-grows minus m b =
     by-test (λ s. soFar s ≤ m * 10 + 9) (leb 48 b && leb b 57) (Digits minus (m * 10 + (b - 48))) Spoiled
     (λ t. omega (arith, leb-true b 57 (and-on (leb 48 b) (leb b 57) t .1)))

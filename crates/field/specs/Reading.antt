@@ -11,14 +11,14 @@ use Rattle.field.specs.declared.Scan.{Scan}
 use Rattle.field.specs.declared.Scan.the-variants.{Blank, Sign, Digits, Spoiled}
 
 -- "then digits": one more after the value m
-abbrev pub digitOf : Bool → ℕ → ℕ → Scan
-digitOf minus m b = if leb 48 b && leb b 57 then Digits minus (m * 10 + (b - 48)) else Spoiled
+abbrev pub withDigit : Bool → ℕ → ℕ → Scan
+withDigit minus m b = if leb 48 b && leb b 57 then Digits minus (m * 10 + (b - 48)) else Spoiled
 
 -- "blanks, then at most one sign, then digits"
 abbrev pub afterColumn : Scan → ℕ → Scan
-afterColumn Blank b = if eqb b 32 then Blank else if eqb b 45 then Sign true else if eqb b 43 then Sign false else digitOf false 0 b
-afterColumn (Sign minus) b = digitOf minus 0 b
-afterColumn (Digits minus m) b = digitOf minus m b
+afterColumn Blank b = if eqb b 32 then Blank else if eqb b 45 then Sign true else if eqb b 43 then Sign false else withDigit false 0 b
+afterColumn (Sign minus) b = withDigit minus 0 b
+afterColumn (Digits minus m) b = withDigit minus m b
 afterColumn Spoiled b = Spoiled
 
 -- one column after the other

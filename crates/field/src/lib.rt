@@ -8,7 +8,7 @@ ghost use lib.Seq.{sets};
 ghost use Rattle.units.specs.Decimal.{digit};
 ghost use Rattle.field.specs.Writing.{fieldOf};
 ghost use Rattle.field.specs.Putting.{fourOf, fourBytes, sixOf};
-ghost use Rattle.field.specs.Reading.{digitOf, afterColumn, valueOf, finishOf, readField, columns, soFar};
+ghost use Rattle.field.specs.Reading.{withDigit, afterColumn, valueOf, finishOf, readField, columns, soFar};
 
 // What a field holds.
 pub enum Number {
@@ -46,7 +46,7 @@ fn split(w: u16) -> Shown
 }
 
 // The last digit of a number.
-fn digit_of(n: u16) -> u8
+fn digit(n: u16) -> u8
     ensures { λ r. ⌜ r ≡ digit n ⌝ }
 {
     48 + (n % 10) as u8
@@ -108,7 +108,7 @@ fn put_few(out: &mut [u8], at: usize, lead: u32, n: u16)
     ensures { λ _. ⌜ now (out .exit) ≡ sets (now (out .entry)) at (sixOf lead n) ⌝ }
 {
     if n < 10 {
-        put_six(out, at, 32, 32, 32, 32, lead as u8, digit_of(n));
+        put_six(out, at, 32, 32, 32, 32, lead as u8, digit(n));
         return;
     }
     put_columns(out, at, 32, 32, few(lead, n));
@@ -131,13 +131,13 @@ pub fn write_field(out: &mut [u8], at: Bytes, w: u16)
         put_columns(out, first, 32, lead as u8, four_digits(n));
         return;
     }
-    put_columns(out, first, lead as u8, digit_of(n / 10000), four_digits(n));
+    put_columns(out, first, lead as u8, digit(n / 10000), four_digits(n));
 }
 
 // A digit after the value m: what is below the digits wraps to far above them, so that one test is enough.
 fn with_digit(minus: bool, m: u32, b: u8) -> Scan
     requires { ⌜ m < 100000 ⌝ }
-    ensures { λ r. ⌜ r ≡ digitOf minus m b ⌝ }
+    ensures { λ r. ⌜ r ≡ withDigit minus m b ⌝ }
 {
     let d = std::num::wrapping_sub_u32(b as u32, 48);
     if 9 < d {

@@ -44,7 +44,7 @@ unfoldable pub fieldsIn : List ℕ → ℕ
 fieldsIn [] = 0
 fieldsIn (n ∷ ns) = n + fieldsIn ns
 
-pub fieldsIn-append : (ns ms : List ℕ) → fieldsIn (ns ++ ms) ≡ fieldsIn ns + fieldsIn ms
+fieldsIn-append : (ns ms : List ℕ) → fieldsIn (ns ++ ms) ≡ fieldsIn ns + fieldsIn ms
 unfolding fieldsIn
 fieldsIn-append [] ms = omega arith
 fieldsIn-append (n ∷ ns) ms = omega (arith, fieldsIn-append ns ms)

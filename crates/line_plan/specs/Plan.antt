@@ -1,4 +1,4 @@
--- Document 01, "The lines": which fields stand on each line of a record, and what its first two show. Writing and reading share this.
+-- Document 01, "The lines": which fields stand on each line of a record, and what its first two fields show. Writing and reading share this.
 use Prim.Native.Nat.{ℕ, zero, suc, _+_, _/_, _%_}
 use mathlib.Core.List.{List, [], _∷_, _++_}
 use lib.Dec.{eqb}

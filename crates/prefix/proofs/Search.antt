@@ -1,12 +1,13 @@
 -- A search by halves over any list of codes that rises.
 use mathlib.Core.Path.{_≡_, refl, ap}
-use mathlib.Core.Bool.{Bool, true, false, cond}
+use mathlib.Core.Bool.{Bool, true, false}
 use mathlib.Core.List.{List, [], _∷_}
 use Prim.Native.Nat.{ℕ, zero, suc, _+_, _-_, _/_, _≤_, _<_}
 use native.Mathlib.Omega.{arith}
 use borrow.Author.Tests.{eq-eqb, ne-eqb}
 use lib.Dec.{eqb}
 use lib.ListN.{length, getD}
+use Rattle.units.specs.Choice.{if_then_else_}
 use Rattle.prefix.specs.Rising.{rises}
 use Rattle.prefix.specs.LookUp.{beside, placeIn, codesOf, valuesOf}
 use Rattle.prefix.proofs.Rising.{rising, later}
@@ -57,6 +58,6 @@ module _ {A : Type 0} where
   beside-place (row ∷ rows) code other = go (eqb (row .0) code) (beside-place rows code other)
     where
       go : (t : Bool) → beside rows code other ≡ getD (valuesOf rows) (placeIn (codesOf rows) code) other
-          → cond t (row .1) (beside rows code other) ≡ getD (row .1 ∷ valuesOf rows) (cond t 0 (suc (placeIn (codesOf rows) code))) other
+          → (if t then row .1 else beside rows code other) ≡ getD (row .1 ∷ valuesOf rows) (if t then 0 else suc (placeIn (codesOf rows) code)) other
       go true ih = refl
       go false ih = ih

@@ -7,7 +7,7 @@ use lib.ListN.{length}
 use lib.Seq.{sets, length-sets, length-take-le}
 use Rattle.units.specs.declared.Answer.{Answer}
 use Rattle.units.specs.Answers.{answer, Verdict, passed, refused, onward}
-use Rattle.words.specs.Words.{bytesOf, framed, Below}
+use Rattle.words.specs.Words.{Below, blockFrom}
 use Rattle.words.specs.Outcomes.{written, leaves}
 use Rattle.words.specs.Writing.{Room, Put}
 use Rattle.words.proofs.Writing.{all-written}
@@ -62,28 +62,24 @@ module _ (text b : List ℕ) {out : List ℕ} {j : Judged} (h : Room out 0 (orRe
 pub lines-bound : (b : List ℕ) → Below 256 b → length (linesPrinted b) ≤ 55971
 lines-bound b h = printed-most (λ _. textOf (recordsOf b)) 55971 (omega arith) (judged b) (λ k e. text-bound b h (record { count = k; is = e }))
 
--- the bytes of a block
-abbrev blockOf : List ℕ → List ℕ
-blockOf ws = bytesOf (framed ws)
-
 pub block-bound : (t : List ℕ) → length (blockPrinted t) ≤ 16000
-block-bound t = printed-most blockOf 16000 (omega arith) (readText t) (λ ws e. omega (arith, length-framed ws, words-room t ws e))
+block-bound t = printed-most blockFrom 16000 (omega arith) (readText t) (λ ws e. omega (arith, length-framed ws, words-room t ws e))
 
 -- lines to block, into a buffer that has room
 module _ (t out : List ℕ) (room : Room out 0 (blockPrinted t)) {r : Answer} {after : List ℕ} (e : leaves r after ≡ toBlock t out) where
   -- the outcome, by what is read of the text
   abbrev From : Verdict (List ℕ) → Type 0
-  From v = leaves r after ≡ written out (onward v (λ ws. passed (blockOf ws)))
+  From v = leaves r after ≡ written out (onward v (λ ws. passed (blockFrom ws)))
 
-  all-in : (ws : List ℕ) → From (passed ws) → Room out 0 (blockOf ws) → leaves r after ≡ leaves (answer 0 (0 + length (blockOf ws)) 0 0) (sets out 0 (blockOf ws))
-  all-in ws f h = f ∙ sym (all-written out (blockOf ws) (omega arith) (record { ends = refl; bytes = refl }))
+  all-in : (ws : List ℕ) → From (passed ws) → Room out 0 (blockFrom ws) → leaves r after ≡ leaves (answer 0 (0 + length (blockFrom ws)) 0 0) (sets out 0 (blockFrom ws))
+  all-in ws f h = f ∙ sym (all-written out (blockFrom ws) (omega arith) (record { ends = refl; bytes = refl }))
 
   -- with 0 the block was put in
   pub block-put : r .n ≡ 0 → Put out 0 (blockPrinted t) after (r .a)
   unfolding toBlock written
   block-put none = by (readText t) (text-known t) e room
     where
-      by : (v : Verdict (List ℕ)) → Known TextRow (WordsFit 0) v → From v → Room out 0 (orRefusal blockOf v) → Put out 0 (orRefusal blockOf v) after (r .a)
+      by : (v : Verdict (List ℕ)) → Known TextRow (WordsFit 0) v → From v → Room out 0 (orRefusal blockFrom v) → Put out 0 (orRefusal blockFrom v) after (r .a)
       by (passed ws) k f h = let w = all-in ws f h in record { ends = ap (λ x. x .answer .a) w; bytes = ap (λ x. x .out) w }
       by (refused s) k f h = absurd (omega (arith, ap (λ x. x .answer .n) f, k .listed))
 
@@ -92,6 +88,6 @@ module _ (t out : List ℕ) (room : Room out 0 (blockPrinted t)) {r : Answer} {a
   unfolding toBlock written
   block-refused some = by (readText t) e room
     where
-      by : (v : Verdict (List ℕ)) → From v → Room out 0 (orRefusal blockOf v) → (after ≡ out) × (orRefusal blockOf v ≡ refusalLine r)
+      by : (v : Verdict (List ℕ)) → From v → Room out 0 (orRefusal blockFrom v) → (after ≡ out) × (orRefusal blockFrom v ≡ refusalLine r)
       by (passed ws) f h = absurd (some (ap (λ x. x .answer .n) (all-in ws f h)))
       by (refused s) f h = (ap (λ x. x .out) f, ap (λ x. refusalLine (x .answer)) (sym f))

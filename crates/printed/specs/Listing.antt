@@ -35,7 +35,7 @@ rowOf number before r =
     ∷ lettersOf (prefixOf (word r 3))
     ∷ [])
 
--- the line up to its lines
+-- the first five of them, up to the count of lines
 abbrev pub frontOf : ℕ → ℕ → List ℕ → List ℕ
 frontOf number before r = decimalOf number ++ spaced ((before + 1) ∷ (word r 2 ∷ (length r ∷ (lineCount r ∷ []))))
 

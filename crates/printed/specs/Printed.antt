@@ -3,7 +3,7 @@ use Prim.Native.Nat.{ℕ, _≤_}
 use mathlib.Core.Path.{_≡_}
 use mathlib.Core.List.{List}
 use lib.ListN.{length, take}
-use Rattle.words.specs.Words.{bytesOf, framed}
+use Rattle.words.specs.Words.{blockFrom}
 use Rattle.words.specs.Writing.{Put}
 use Rattle.block.specs.Judging.{judged}
 use Rattle.block.specs.Records.{recordsOf}
@@ -23,4 +23,4 @@ linesPrinted block = orRefusal (λ _. textOf (recordsOf block)) (judged block)
 
 -- the record words of the text, length word and checksum around them, as bytes
 abbrev pub blockPrinted : List ℕ → List ℕ
-blockPrinted text = orRefusal (λ ws. bytesOf (framed ws)) (readText text)
+blockPrinted text = orRefusal (λ ws. blockFrom ws) (readText text)

@@ -9,7 +9,7 @@ use lib.Dec.{ltb, eqb}
 use lib.ListN.{length, length-append}
 use Rattle.units.specs.declared.Answer.{Answer}
 use Rattle.units.specs.Answers.{answer, Verdict, passed, refused, onward, Packs}
-use Rattle.words.specs.Words.{bytesOf, framed, mostRecordWords}
+use Rattle.words.specs.Words.{mostRecordWords, blockFrom}
 use Rattle.words.specs.Outcomes.{written}
 use Rattle.words.proofs.Sealing.{length-framed}
 use Rattle.words.proofs.Writing.{written-told}
@@ -97,8 +97,8 @@ answer-told t out = by (readText t) (text-known t)
     listed (inl e) = inl e
     listed (inr e) = inr (omega arith)
 
-    by : (v : Verdict (List ℕ)) → Known TextRow (WordsFit 0) v → Answered (written out (onward v (λ ws. passed (bytesOf (framed ws)))) .answer)
+    by : (v : Verdict (List ℕ)) → Known TextRow (WordsFit 0) v → Answered (written out (onward v (λ ws. passed (blockFrom ws))) .answer)
     by (refused r) h = record { listed = inr (h .listed .0, h .listed .1); packs = h .packs }
     by (passed ws) h =
-        let w = written-told out (bytesOf (framed ws)) (omega (arith, length-framed ws, h .most)) in
+        let w = written-told out (blockFrom ws) (omega (arith, length-framed ws, h .most)) in
         record { listed = listed (w .0); packs = w .1 }

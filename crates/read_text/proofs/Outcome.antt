@@ -11,7 +11,7 @@ use Rattle.units.specs.declared.Words.{Words}
 use Rattle.units.specs.Answers.{answer, Verdict, passed, refused, onward}
 use Rattle.units.proofs.Verdicts.{never-passed, else-passed}
 use Rattle.units.specs.Units.{bytesOfWords}
-use Rattle.words.specs.Words.{wordsOf, bytesOf, framed, words}
+use Rattle.words.specs.Words.{wordsOf, words, blockFrom}
 use Rattle.words.proofs.Writing.{too-short, all-written}
 use Rattle.words.proofs.Sealing.{sealed-put, length-framed}
 use Rattle.words.specs.Outcomes.{leaves, written}
@@ -24,7 +24,7 @@ use Rattle.read_first_line.specs.State.{put}
 use Rattle.read_text.specs.Content.{Stored, stored, storedOf}
 use Rattle.read_text.specs.Cases.{contentOf}
 use Rattle.read_text.specs.declared.Content.{Content}
-use Rattle.read_text.specs.declared.Content.the-variants.{Records, Flawed}
+use Rattle.read_text.specs.declared.Content.the-variants.{RecordWords, Flawed}
 
 -- row 30 comes first
 module _ (t : List ℕ) where
@@ -42,11 +42,11 @@ pub record HasWords (t : List ℕ) (n : ℕ) : Type 0 where
   pub is : readText t ≡ passed records
   pub count : n ≡ length records
 
-pub has-words : (t : List ℕ) (n : Words) → contentOf (Records n) ≡ wordsIn t → HasWords t (n .0)
+pub has-words : (t : List ℕ) (n : Words) → contentOf (RecordWords n) ≡ wordsIn t → HasWords t (n .0)
 unfolding wordsIn
 has-words t n e = by (readText t) refl e
   where
-    by : (v : Verdict (List ℕ)) → readText t ≡ v → contentOf (Records n) ≡ onward v (λ ws. passed (length ws)) → HasWords t (n .0)
+    by : (v : Verdict (List ℕ)) → readText t ≡ v → contentOf (RecordWords n) ≡ onward v (λ ws. passed (length ws)) → HasWords t (n .0)
     by (passed ws) is same = record { records = ws; is = is; count = cc }
     by (refused r) is same = absurd (never-passed (sym same))
 
@@ -56,10 +56,10 @@ unfolding wordsIn
 words-counted t b b′ r e = by r (readText t) e
   where
     by : (c : Content) (v : Verdict (List ℕ)) → storedOf b′ c ≡ stored 0 b v → contentOf c ≡ onward v (λ ws. passed (length ws))
-    by (Records n) (passed ws) same =
+    by (RecordWords n) (passed ws) same =
         let k : _≡_ {A = Stored} (record { words = n .0; block = b′ }) (record { words = 0 + length ws; block = put 0 b ws }) = cc in
         ap (λ m. passed m) (ap (λ (x : Stored). x .words) k ∙ zero-add (length ws))
-    by (Records n) (refused r) same = absurd (never-passed (sym same))
+    by (RecordWords n) (refused r) same = absurd (never-passed (sym same))
     by (Flawed f) (passed ws) same = absurd (never-passed same)
     by (Flawed f) (refused r) same = let k : flawOf f ≡ r = cc in ap (λ x. refused x) k
 
@@ -70,36 +70,36 @@ not-long t n a = ltb-false 65536 (length t) (else-passed (ltb 65536 (length t)) 
 
 -- the words that are put behind the length word
 records-put : (t b b′ : List ℕ) (n : ℕ) (r : Content) (a : HasWords t n) → storedOf b′ r ≡ stored 0 b (readText t) → b′ ≡ put 0 b (a .records)
-records-put t b b′ n (Records m) a e =
-    let k : _≡_ {A = Stored} (record { words = m .0; block = b′ }) (record { words = 0 + length (a .records); block = put 0 b (a .records) }) = let s : storedOf b′ (Records m) ≡ stored 0 b (passed (a .records)) = rw (a .is) at e in cc in
+records-put t b b′ n (RecordWords m) a e =
+    let k : _≡_ {A = Stored} (record { words = m .0; block = b′ }) (record { words = 0 + length (a .records); block = put 0 b (a .records) }) = let s : storedOf b′ (RecordWords m) ≡ stored 0 b (passed (a .records)) = rw (a .is) at e in cc in
     ap (λ (x : Stored). x .block) k
 records-put t b b′ n (Flawed f) a e = let s : storedOf b′ (Flawed f) ≡ stored 0 b (passed (a .records)) = rw (a .is) at e in absurd (never-passed s)
 
 -- the block that an accepted text gives
-block-is : (t out : List ℕ) (n : ℕ) (a : HasWords t n) → toBlock t out ≡ written out (passed (bytesOf (framed (a .records))))
+block-is : (t out : List ℕ) (n : ℕ) (a : HasWords t n) → toBlock t out ≡ written out (passed (blockFrom (a .records)))
 unfolding toBlock
 block-is t out n a = rw (a .is)
 
 -- writing the block of an accepted text, which takes `size` bytes
 module _ (t b : List ℕ) (n : ℕ) (a : HasWords t n) {size : ℕ} (is : size ≡ bytesOfWords (n + 2)) where
-  length-is : size ≡ length (bytesOf (framed (a .records)))
+  length-is : size ≡ length (blockFrom (a .records))
   length-is = omega (arith, length-framed (a .records), a .count)
 
   pub block-short : length b < size → leaves (answer 29 size 0 0) b ≡ toBlock t b
-  block-short h = too-short b (bytesOf (framed (a .records))) size length-is h ∙ sym (block-is t b n a)
+  block-short h = too-short b (blockFrom (a .records)) size length-is h ∙ sym (block-is t b n a)
 
   -- its words were put behind the length word, and sealed
   pub block-built : (b′ : List ℕ) (r : Content) {after : List ℕ} → size ≤ length b → storedOf b′ r ≡ stored 0 b (readLines 1 0 [] (linesIn t))
-      → after ≡ bytesOf (framed (words (wordsOf b′) 2 (n + 1))) ++ drop (bytesOfWords (n + 2)) b′ → leaves (answer 0 size 0 0) after ≡ toBlock t b
+      → after ≡ blockFrom (words (wordsOf b′) 2 (n + 1)) ++ drop (bytesOfWords (n + 2)) b′ → leaves (answer 0 size 0 0) after ≡ toBlock t b
   block-built b′ r room read sealed =
       let p = records-put t b b′ n r a (read ∙ ap (stored 0 b) (sym (line-by-line t (not-long t n a)))) in
-      rw is (all-written b (bytesOf (framed (a .records))) (omega (arith, length-is)) (sealed-put b (a .records) n (a .count) (omega arith) p sealed)) ∙ sym (block-is t b n a)
+      rw is (all-written b (blockFrom (a .records)) (omega (arith, length-is)) (sealed-put b (a .records) n (a .count) (omega arith) p sealed)) ∙ sym (block-is t b n a)
 
 -- a refused text leaves the block as it is
 pub refused-is : (t out : List ℕ) (f : Flaw) → contentOf (Flawed f) ≡ wordsIn t → leaves (flawOf f) out ≡ toBlock t out
 unfolding toBlock written wordsIn
 refused-is t out f e = by (readText t) e
   where
-    by : (v : Verdict (List ℕ)) → contentOf (Flawed f) ≡ onward v (λ ws. passed (length ws)) → leaves (flawOf f) out ≡ written out (onward v (λ ws. passed (bytesOf (framed ws))))
+    by : (v : Verdict (List ℕ)) → contentOf (Flawed f) ≡ onward v (λ ws. passed (length ws)) → leaves (flawOf f) out ≡ written out (onward v (λ ws. passed (blockFrom ws)))
     by (passed ws) same = absurd (never-passed same)
     by (refused r) same = let k : flawOf f ≡ r = cc in ap (λ x. leaves x out) k

@@ -5,7 +5,7 @@ use lib.Dec.{ltb}
 use lib.ListN.{length}
 use Rattle.units.specs.Choice.{if_then_else_}
 use Rattle.units.specs.Answers.{answer, Verdict, passed, refused, onward}
-use Rattle.words.specs.Words.{bytesOf, framed}
+use Rattle.words.specs.Words.{blockFrom}
 use Rattle.words.specs.Outcomes.{Written, written}
 use Rattle.read_cut.specs.Lines.{linesIn}
 use Rattle.read_line.specs.Lines.{readLines}
@@ -20,4 +20,4 @@ wordsIn t = onward (readText t) (λ ws. passed (length ws))
 
 -- "At the end 21, then 29": the record words of the text, length word and checksum around them, as bytes
 unfoldable pub toBlock : List ℕ → List ℕ → Written
-toBlock t out = written out (onward (readText t) (λ ws. passed (bytesOf (framed ws))))
+toBlock t out = written out (onward (readText t) (λ ws. passed (blockFrom ws)))

@@ -5,7 +5,7 @@ use Rattle.units.specs.declared.Answer.{Answer}
 use Rattle.units.specs.Answers.{answer, Verdict, passed, refused}
 use Rattle.read_columns.specs.Cases.{flawOf}
 use Rattle.read_text.specs.declared.Content.{Content}
-use Rattle.read_text.specs.declared.Content.the-variants.{Records, Flawed}
+use Rattle.read_text.specs.declared.Content.the-variants.{RecordWords, Flawed}
 use Rattle.read_text.specs.declared.Built.{Built}
 use Rattle.read_text.specs.declared.Built.the-variants.{Block, Refused, Short}
 
@@ -19,7 +19,7 @@ ToBlockRow n = (20 ≤ n) × (n ≤ 30)
 
 -- the record words of a text, or its refusal
 abbrev pub contentOf : Content → Verdict ℕ
-contentOf (Records n) = passed (n .0)
+contentOf (RecordWords n) = passed (n .0)
 contentOf (Flawed f) = refused (flawOf f)
 
 -- the bytes written; the text's refusal; row 29 with the bytes needed

@@ -9,7 +9,7 @@ use Rattle.read_first_line.specs.FirstLine.{Shape}
 use Rattle.read_line.specs.Lines.{atEnd}
 use Rattle.read_first_line.specs.State.{put}
 use Rattle.read_text.specs.declared.Content.{Content}
-use Rattle.read_text.specs.declared.Content.the-variants.{Records, Flawed}
+use Rattle.read_text.specs.declared.Content.the-variants.{RecordWords, Flawed}
 
 -- the record words of a text, and the block as it is then
 pub record Stored : Type 0 where
@@ -22,7 +22,7 @@ stored held block v = onward v (λ ws. passed (record { words = held + length ws
 
 -- what is found, and the block as it is then
 abbrev pub storedOf : List ℕ → Content → Verdict Stored
-storedOf block (Records n) = passed (record { words = n .0; block = block })
+storedOf block (RecordWords n) = passed (record { words = n .0; block = block })
 storedOf block (Flawed f) = refused (flawOf f)
 
 -- what is told at the end of the text, whatever block was written

@@ -21,7 +21,7 @@ ghost use Rattle.read_text.specs.Cases.{contentOf, builtOf};
 
 // What is found of a text: its record words, or why it is refused.
 pub enum Content {
-    Records(Words),
+    RecordWords(Words),
     Flawed(Flaw),
 }
 
@@ -39,7 +39,7 @@ fn at_end(plan: Plan, num: Lines, held: Words) -> Content
     if held.0 == 0 {
         return Content::Flawed(Flaw::NoRecord);
     }
-    Content::Records(held)
+    Content::RecordWords(held)
 }
 
 // Reads the lines of a text, and puts their words into the block behind its length word, as far as it has room.
@@ -98,7 +98,7 @@ pub fn judge(text: &[u8]) -> Content
 
 // Writes the block of an accepted text that has `records` record words, if the lent block has room for it.
 fn write_block(text: &[u8], records: Words, block: &mut [u8]) -> Built
-    requires { ⌜ contentOf (Content.Records records) ≡ wordsIn (now text) ⌝ }
+    requires { ⌜ contentOf (Content.RecordWords records) ≡ wordsIn (now text) ⌝ }
     ensures { λ r. ⌜ leaves (builtOf r) (now (block .exit)) ≡ toBlock (now (text .entry)) (now (block .entry)) ⌝ }
 {
     let all = records.0 + 2;
@@ -118,7 +118,7 @@ pub fn to_block(text: &[u8], block: &mut [u8]) -> Built
 {
     match judge(text) {
         Content::Flawed(f) => Built::Refused(f),
-        Content::Records(n) => write_block(text, n, block),
+        Content::RecordWords(n) => write_block(text, n, block),
     }
 }
 

@@ -7,8 +7,8 @@ use native.Mathlib.Nat.{mul-le-mul}
 use native.Mathlib.Omega.{arith}
 use borrow.Author.Tests.{ltb-false, leb-false, le-ltb, lt-leb}
 use lib.Dec.{ltb}
-use lib.ListN.{length, getD, take}
-use lib.Seq.{getD-take, take-take, take-append-le}
+use lib.ListN.{length, getD, take, set}
+use lib.Seq.{getD-take, getD-set-other, take-take, take-append-le}
 use Rattle.units.specs.Choice.{if_then_else_}
 use Rattle.units.proofs.Verdicts.{or-off}
 use Rattle.record.specs.declared.Counts.{Counts}
@@ -28,6 +28,9 @@ counts-take k r h = rw (← counts-first (take k r), take-take 16 k r h) (counts
 
 pub counts-append : (r tail : List ℕ) → 16 ≤ length r → countsOf (r ++ tail) ≡ countsOf r
 counts-append r tail h = rw (← counts-first (r ++ tail), take-append-le 16 r tail h) (counts-first r)
+
+pub counts-set : (r : List ℕ) (j v : ℕ) → 16 ≤ j → countsOf (set r j v) ≡ countsOf r
+counts-set r j v h = counts-same (set r j v) r (λ i low high. getD-set-other r j i v 0 (λ e. omega arith))
 
 at-least : (least w : ℕ) → underLeast least w ≡ false → Least least w
 unfolding underLeast

@@ -20,7 +20,7 @@ cardWord = wordWithin 32 126
 unfoldable pub wrongTotal : ℕ → ℕ → Bool
 wrongTotal total left = ltb total 40 || (not (eqb (total % 40) 0) || ltb left total)
 
--- a total that is right, with no order of tests
+-- row 6 does not hold: a total that is right, with no order of tests
 pub record TotalRight (total left : ℕ) : Type 0 where
   pub least : 40 ≤ total
   pub whole : total % 40 ≡ 0
@@ -41,7 +41,7 @@ judgeCards n z rest =
     if wrongTotal (word rest 1) (length rest) then refused (answer 6 n 1 0)
     else judgeContent n z (word rest 1) rest
 
--- row 9: "Data counts or total wrong: first of 13, 14, 15, 16, then 1"
+-- row 9: "Data counts or total wrong": "record, first of 13, 14, 15, 16, then 1"
 unfoldable pub judgeCounts : ℕ → ℕ → Counts → Verdict ℕ
 judgeCounts n total c =
     if ltb (inRange c) 4 then refused (answer 9 n (13 + inRange c) 0)

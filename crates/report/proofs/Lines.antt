@@ -26,12 +26,12 @@ behind-numbers (n ∷ ns) xs =
     ap (λ l. 32 ∷ (decimalOf n ++ l)) (behind-numbers ns xs) ∙ ap (λ l. 32 ∷ l) (sym (append-assoc (decimalOf n) (spaced ns) (behind xs)))
 
 module _ (r : Answer) where
-  abbrev pub fourOf : List ℕ
-  fourOf = r .n ∷ r .a ∷ r .b ∷ r .c ∷ []
+  abbrev pub fourNumbers : List ℕ
+  fourNumbers = r .n ∷ r .a ∷ r .b ∷ r .c ∷ []
 
-  pub refusal-pieces : refusalLine r ≡ text "refused" ++ (spaced fourOf ++ (10 ∷ []))
+  pub refusal-pieces : refusalLine r ≡ text "refused" ++ (spaced fourNumbers ++ (10 ∷ []))
   unfolding refusalLine lineOf behind
-  refusal-pieces = ap (λ l. text "refused" ++ l) (behind-numbers fourOf [])
+  refusal-pieces = ap (λ l. text "refused" ++ l) (behind-numbers fourNumbers [])
 
 pub spaced-most : (ns : List ℕ) → length (spaced ns) ≤ 11 * length ns
 unfolding spaced
@@ -44,9 +44,9 @@ refusal-most r =
     omega (
       arith,
       ap length (refusal-pieces r),
-      length-append (text "refused") (spaced (fourOf r) ++ (10 ∷ [])),
-      length-append (spaced (fourOf r)) (10 ∷ []),
-      spaced-most (fourOf r),
+      length-append (text "refused") (spaced (fourNumbers r) ++ (10 ∷ [])),
+      length-append (spaced (fourNumbers r)) (10 ∷ []),
+      spaced-most (fourNumbers r),
     )
 
 -- where what is made of what passed is no longer than k, nothing longer is printed

@@ -7,8 +7,9 @@ use native.Mathlib.Numerals.{add-one}
 use native.Mathlib.Omega.{arith}
 use borrow.Author.Tests.{eq-eqb, ne-eqb}
 use lib.Dec.{eqb, ltb}
-use lib.ListN.{length, getD, take, drop, set, replicate, length-drop, length-replicate, drop-of-length-le, replicate-append-replicate}
-use lib.Seq.{sets, slice, take-all, drop-drop, drop-length, drop-cons, set-at, append-snoc}
+use lib.ListN.{length, getD, take, drop, set, replicate, length-drop, drop-of-length-le}
+use lib.Seq.{sets, slice, take-all, drop-drop, drop-length, drop-cons}
+use borrow.Author.Fill.{fill-more}
 use Rattle.units.specs.Units.{bytesOfWords}
 use Rattle.units.specs.declared.Words.{Words}
 use Rattle.units.specs.Answers.{answer}
@@ -68,11 +69,7 @@ unbroken-size y s t e f = unbroken y s (sym e ∙ f) .size
 
 -- zeros up to here, and one more
 pub cleared-on : (s l : List ℕ) (i : ℕ) → l ≡ replicate i 0 ++ drop i s → i < length s → set l i 0 ≡ replicate (i + 1) 0 ++ drop (i + 1) s
-cleared-on s l i e h =
-    ap (λ t. set t i 0) (e ∙ ap (λ t. replicate i 0 ++ t) (drop-cons s i 0 h))
-    ∙ set-at (replicate i 0) (getD s i 0) (drop (suc i) s) 0 i (length-replicate i 0)
-    ∙ sym (append-snoc (replicate i 0) 0 (drop (suc i) s))
-    ∙ rw (← add-one) (ap (λ t. t ++ drop (i + 1) s) (replicate-append-replicate i 1 0))
+cleared-on s l i e h = ap (λ t. set t i 0) e ∙ fill-more i 0 s h
 
 -- zeros up to the end
 pub cleared : (s l : List ℕ) (i : ℕ) → l ≡ replicate i 0 ++ drop i s → i ≡ length s → l ≡ replicate (length s) 0

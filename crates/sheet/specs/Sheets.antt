@@ -29,7 +29,7 @@ Entry = List ℕ
 abbrev pub sheetBytes : Layout → ℕ
 sheetBytes y = 8 + bytesOfWords (y .limit * y .words)
 
--- "numbers high byte first: the mark "AMD", a 16-bit version, a 16-bit count, one zero byte, then" the numbers of the entries
+-- "numbers high byte first: the mark "AMD", a 16-bit version ..., a 16-bit count ..., one zero byte, then" the numbers of the entries
 unfoldable pub sheetWith : ℕ → ℕ → List ℕ → List ℕ
 sheetWith version count numbers = 65 ∷ 77 ∷ 68 ∷ bytesOf (version ∷ count ∷ []) ++ (0 ∷ bytesOf numbers)
 

@@ -1,6 +1,7 @@
 -- Tests and verdicts: what a refusal that was not given tells.
 use mathlib.Core.Path.{_≡_, refl}
-use mathlib.Core.Bool.{Bool, true, false, _||_, _&&_}
+use mathlib.Core.Bool.{Bool, true, false, _||_, _&&_, and-eq-true-iff}
+use mathlib.Mathlib.Data.Bool.Basic.{or-eq-false-eq-eq-false-and-eq-false}
 use Prim.Native.Nat.{ℕ}
 use native.Mathlib.Omega.{arith}
 use Rattle.units.specs.declared.Answer.{Answer}
@@ -17,12 +18,10 @@ module _ {A : Type 0} where
   else-passed false r v x e = (refl, e)
 
 pub or-off : (s t : Bool) → (s || t) ≡ false → (s ≡ false) × (t ≡ false)
-or-off true t e = let z : _≡_ {A = ℕ} 0 1 = cc in absurd (omega arith)
-or-off false t e = (refl, e)
+or-off s t e = or-eq-false-eq-eq-false-and-eq-false s t .0 e
 
 pub and-on : (s t : Bool) → (s && t) ≡ true → (s ≡ true) × (t ≡ true)
-and-on true t e = (refl, e)
-and-on false t e = let z : _≡_ {A = ℕ} 0 1 = cc in absurd (omega arith)
+and-on s t e = and-eq-true-iff s t .0 e
 
 -- what follows from each of two tests
 pub either-on : {P : Type 0} (s t : Bool) → (s ≡ true → P) → (t ≡ true → P) → (s || t) ≡ true → P

@@ -6,7 +6,7 @@ use Rattle.units.specs.declared.Answer.{Answer}
 abbrev pub answer : ℕ → ℕ → ℕ → ℕ → Answer
 answer n a b c = record { n = n; a = a; b = b; c = c }
 
--- a judgement goes on with a value, or stops: "a refusal is given exactly when its row holds and none before it in the order does"
+-- a judgement goes on with a value, or stops: "A refusal is given exactly when its row holds and none before it in the order does"
 pub data Verdict (A : Type 0) : Type 0 where
   passed : A → Verdict A
   refused : Answer → Verdict A

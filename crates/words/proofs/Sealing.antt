@@ -7,7 +7,7 @@ use native.Mathlib.Omega.{arith}
 use lib.ListN.{length, take, drop, set, length-append}
 use lib.Seq.{sets, sets-eq, slice, length-take-le, length-slice, drop-set-lt, take-at, drop-at}
 use Rattle.units.specs.Units.{bytesOfWords}
-use Rattle.words.specs.Words.{wordsOf, bytesOf, words, xorAll, framed, Below}
+use Rattle.words.specs.Words.{wordsOf, bytesOf, words, xorAll, framed, Below, blockFrom}
 use Rattle.words.specs.Writing.{Put}
 use Rattle.words.proofs.Laws.{length-wordsOf, length-bytesOf, bytes-words, words-bytes, words-take, words-slice, bytes-append}
 use Rattle.words.proofs.Lists.{all-take}
@@ -38,7 +38,7 @@ bytes-sealed (y ∷ z ∷ r) n w x h k =
 -- the length word is put, the checksum taken of it and the record words, and put behind them: the block is sealed
 pub sealed : (b : List ℕ) (n : ℕ) {b′ part after : List ℕ} {x : ℕ} → (n + 2) * 2 ≤ length b → Below 256 b
     → b′ ≡ sets b 0 (bytesOf ((n + 2) ∷ [])) → part ≡ slice 0 ((n + 1) * 2) b′ → x ≡ xorAll (wordsOf part) → after ≡ sets b′ ((n + 1) * 2) (bytesOf (x ∷ []))
-    → after ≡ bytesOf (framed (words (wordsOf b) 2 (n + 1))) ++ drop ((n + 2) * 2) b
+    → after ≡ blockFrom (words (wordsOf b) 2 (n + 1)) ++ drop ((n + 2) * 2) b
 unfolding framed
 sealed b n h k first parted sum last =
     let e : length (words (wordsOf b) 2 (n + 1)) ≡ n = length-slice 1 (n + 1) (wordsOf b) (omega (arith, length-wordsOf b)) ∙ omega arith in
@@ -65,17 +65,17 @@ behind-length-put b ws n e h =
     sym (words-slice 1 (n + 1) (sets b 2 (bytesOf ws))) ∙ ap wordsOf (slice-sets b (bytesOf ws) 2 ((n + 1) * 2) (omega arith) (omega arith)) ∙ words-bytes ws
 
 -- the bytes of a frame
-pub length-framed : (ws : List ℕ) → length (bytesOf (framed ws)) ≡ bytesOfWords (length ws + 2)
+pub length-framed : (ws : List ℕ) → length (blockFrom ws) ≡ bytesOfWords (length ws + 2)
 unfolding framed
 length-framed ws = let x = xorAll ((length ws + 2) ∷ ws) in omega (arith, length-bytesOf ((length ws + 2) ∷ (ws ++ (x ∷ []))), length-append ws (x ∷ []))
 
 -- record words put there and then sealed: their frame is written
 pub sealed-put : (b ws : List ℕ) (n : ℕ) {b′ after : List ℕ} → n ≡ length ws → bytesOfWords (n + 2) ≤ length b → b′ ≡ sets b 2 (bytesOf ws)
-    → after ≡ bytesOf (framed (words (wordsOf b′) 2 (n + 1))) ++ drop (bytesOfWords (n + 2)) b′ → Put b 0 (bytesOf (framed ws)) after (bytesOfWords (n + 2))
+    → after ≡ blockFrom (words (wordsOf b′) 2 (n + 1)) ++ drop (bytesOfWords (n + 2)) b′ → Put b 0 (blockFrom ws) after (bytesOfWords (n + 2))
 sealed-put b ws n e h p q =
     let l = length-bytesOf ws in
-    let size : bytesOfWords (n + 2) ≡ 0 + length (bytesOf (framed ws)) = omega (arith, length-framed ws) in
+    let size : bytesOfWords (n + 2) ≡ 0 + length (blockFrom ws) = omega (arith, length-framed ws) in
     record {
       ends = size;
-      bytes = q ∙ rw (p, behind-length-put b ws n e h, drop-sets ((n + 2) * 2) 2 b (bytesOf ws) (omega arith), size) (sym (sets-eq (bytesOf (framed ws)) b 0 (omega arith)));
+      bytes = q ∙ rw (p, behind-length-put b ws n e h, drop-sets ((n + 2) * 2) 2 b (bytesOf ws) (omega arith), size) (sym (sets-eq (blockFrom ws) b 0 (omega arith)));
     }

@@ -12,13 +12,13 @@ pub record Written : Type 0 where
   pub answer : Answer
   pub out : List ℕ
 
--- "Success is n = 0 with a = bytes written (conversions)"; row 29: "output shorter than needed: a = bytes needed"; "Bytes of an output past those written stay"
-unfoldable pub written : List ℕ → Verdict (List ℕ) → Written
-written out (refused r) = record { answer = r; out = out }
-written out (passed bytes) =
-    if ltb (length out) (length bytes) then record { answer = answer 29 (length bytes) 0 0; out = out }
-    else record { answer = answer 0 (length bytes) 0 0; out = bytes ++ drop (length bytes) out }
-
 -- an answer and the output as it is then
 abbrev pub leaves : Answer → List ℕ → Written
 leaves r out = record { answer = r; out = out }
+
+-- "Success is n = 0 with a = ... bytes written (conversions)"; row 29: "output shorter than needed: a = bytes needed"; "Bytes of an output past those written stay"
+unfoldable pub written : List ℕ → Verdict (List ℕ) → Written
+written out (refused r) = leaves r out
+written out (passed bytes) =
+    if ltb (length out) (length bytes) then leaves (answer 29 (length bytes) 0 0) out
+    else leaves (answer 0 (length bytes) 0 0) (bytes ++ drop (length bytes) out)

@@ -27,6 +27,6 @@ plainIn l = passing (within 32 126) l
 unfoldable pub wordWithin : ℕ → ℕ → ℕ → Bool
 wordWithin least most w = within least most (w / 256) && within least most (w % 256)
 
--- "Words 13 to 40 are zero"
+-- a zero word
 abbrev pub isZero : ℕ → Bool
 isZero w = eqb w 0

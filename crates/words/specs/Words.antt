@@ -42,10 +42,15 @@ joined (r ∷ rs) = r ++ joined rs
 unfoldable pub framed : List ℕ → List ℕ
 framed ws = (length ws + 2) ∷ ws ++ (xorAll ((length ws + 2) ∷ ws) ∷ [])
 
--- "A block has 18 to 8,000 words": the most of them, and the most that its records have beside the length word and the checksum
+-- the block of these record words, as bytes
+abbrev pub blockFrom : List ℕ → List ℕ
+blockFrom ws = bytesOf (framed ws)
+
+-- "A block has 18 to 8,000 words"
 abbrev pub mostWords : ℕ
 mostWords = 8000
 
+-- and two of them are the length word and the checksum
 abbrev pub mostRecordWords : ℕ
 mostRecordWords = 7998
 

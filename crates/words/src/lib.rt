@@ -9,7 +9,7 @@ ghost use lib.Seq.{sets, slice};
 ghost use Rattle.units.specs.Units.{bytesOfWords};
 ghost use Rattle.words.specs.Scans.{passing, within, wordWithin};
 ghost use Rattle.words.specs.Writing.{Room, Put};
-ghost use Rattle.words.specs.Words.{wordsOf, bytesOf, xorAll, swapped, words, framed, mostRecordWords};
+ghost use Rattle.words.specs.Words.{wordsOf, bytesOf, xorAll, swapped, words, mostRecordWords, blockFrom};
 
 fn wide(x: u8) -> u16
     ensures { λ r. ⌜ (r ≡ x) × (r < 256) ⌝ }
@@ -134,7 +134,7 @@ pub fn write_bytes(text: &[u8], out: &mut [u8], at: Bytes) -> Bytes
 // Puts the length word before `records` record words, and the checksum after them; all bytes past those stay.
 pub fn seal(block: &mut [u8], records: Words)
     requires { ⌜ (records .0 ≤ mostRecordWords) × (bytesOfWords (records .0 + 2) ≤ length (now block)) ⌝ }
-    ensures { λ _. ⌜ now (block .exit) ≡ bytesOf (framed (words (wordsOf (now (block .entry))) 2 (records .0 + 1))) ++ drop (bytesOfWords (records .0 + 2)) (now (block .entry)) ⌝ }
+    ensures { λ _. ⌜ now (block .exit) ≡ blockFrom (words (wordsOf (now (block .entry))) 2 (records .0 + 1)) ++ drop (bytesOfWords (records .0 + 2)) (now (block .entry)) ⌝ }
 {
     let n = records.0;
     let last = n + 1;

@@ -25,7 +25,7 @@ length-fieldsOf [] = refl
 length-fieldsOf (w ∷ ws) = omega (arith, length-append (fieldOf w) (fieldsOf ws), length-fieldOf w, length-fieldsOf ws)
 
 -- the next of `left` words from a place on
-pub next-word : (ws : List ℕ) (place left : ℕ) → 0 < left → place < length ws
+next-word : (ws : List ℕ) (place left : ℕ) → 0 < left → place < length ws
     → take left (drop place ws) ≡ getD ws place 0 ∷ take (left - 1) (drop (place + 1) ws)
 next-word ws place left h k =
     let e : left ≡ suc (left - 1) = omega arith in
@@ -41,7 +41,7 @@ unfolding fieldsOf
 no-fields ws left e = rw e refl
 
 -- a line, and the lines behind it
-pub line-turn : (n : ℕ) (ns ws : List ℕ) → ended (laid (n ∷ ns) ws) ≡ (fieldsOf (take n ws) ++ (10 ∷ [])) ++ ended (laid ns (drop n ws))
+line-turn : (n : ℕ) (ns ws : List ℕ) → ended (laid (n ∷ ns) ws) ≡ (fieldsOf (take n ws) ++ (10 ∷ [])) ++ ended (laid ns (drop n ws))
 unfolding ended laid
 line-turn n ns ws = sym (append-assoc (fieldsOf (take n ws)) (10 ∷ []) (ended (laid ns (drop n ws))))
 
@@ -59,7 +59,7 @@ pub no-part : (ws : List ℕ) (n : ℕ) → n ≡ 0 → ended (laid (part n) ws)
 unfolding ended laid part
 no-part ws n e = rw e refl
 
-pub ended-append : (ls ms : List Line) → ended (ls ++ ms) ≡ ended ls ++ ended ms
+ended-append : (ls ms : List Line) → ended (ls ++ ms) ≡ ended ls ++ ended ms
 unfolding ended
 ended-append [] ms = refl
 ended-append (l ∷ ls) ms = ap (λ t. l ++ (10 ∷ t)) (ended-append ls ms) ∙ sym (append-assoc l (10 ∷ ended ls) (ended ms))

@@ -11,7 +11,7 @@ unfoldable pub fieldsOf : List ℕ → Line
 fieldsOf [] = []
 fieldsOf (w ∷ ws) = fieldOf w ++ fieldsOf ws
 
--- words laid out in lines of n fields each
+-- words laid out in lines, each of as many fields as the plan says
 unfoldable pub laid : List ℕ → List ℕ → List Line
 laid [] ws = []
 laid (n ∷ ns) ws = fieldsOf (take n ws) ∷ laid ns (drop n ws)

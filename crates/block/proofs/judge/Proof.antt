@@ -1,5 +1,5 @@
 use Rattle.block.proofs.Size.{SizeRight, size-right}
-use Rattle.block.specs.Judging.{wrongSize, summed, judged}
+use Rattle.block.specs.Judging.{wrongSize, judgeWords, judged}
 use Rattle.units.specs.Answers.{answer, Verdict, refused}
 use Rattle.words.specs.Words.{wordsOf}
 use denote.Ref.{now}
@@ -20,7 +20,7 @@ module _ (b : List ℕ) {stated there : ℕ} (off : wrongSize (length b) ≡ fal
   unfolding judged
   judged-refused ne = simp (off, ← says, ← size, ne-eqb stated there ne)
 
-  judged-on : {v : Verdict ℕ} → stated ≡ there → v ≡ summed (wordsOf b) → v ≡ judged b
+  judged-on : {v : Verdict ℕ} → stated ≡ there → v ≡ judgeWords (wordsOf b) → v ≡ judged b
   unfolding judged
   judged-on e w = w ∙ simp (off, ← says, ← size, eq-eqb stated there e)
 

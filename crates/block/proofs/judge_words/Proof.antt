@@ -1,4 +1,4 @@
-use Rattle.block.specs.Judging.{walk, summed}
+use Rattle.block.specs.Judging.{walk, judgeWords}
 use Rattle.units.specs.Answers.{answer, Verdict, refused}
 use Rattle.words.proofs.Laws.{words-slice}
 use Rattle.words.specs.Words.{wordsOf, xorAll}
@@ -18,10 +18,10 @@ use Rattle.block.proofs.judge_words.Tie as tie
 
 -- n words, the last of them and the exclusive or of the others, as they are read
 module _ (ws : List ℕ) {n stored sum : ℕ} (size : n ≡ length ws) (s : stored ≡ getD ws (n - 1) 0) (x : sum ≡ xorAll (take (n - 1) ws)) where
-  summed-refused : (stored ≡ sum → ⊥) → refused (answer 3 0 0 (ones (bitXor stored sum))) ≡ summed ws
+  summed-refused : (stored ≡ sum → ⊥) → refused (answer 3 0 0 (ones (bitXor stored sum))) ≡ judgeWords ws
   summed-refused ne = simp (← size, ← s, ← x, ne-eqb stored sum ne)
 
-  summed-walked : {v : Verdict ℕ} → stored ≡ sum → v ≡ walk 0 1 (slice 1 (n - 1) ws) → v ≡ summed ws
+  summed-walked : {v : Verdict ℕ} → stored ≡ sum → v ≡ walk 0 1 (slice 1 (n - 1) ws) → v ≡ judgeWords ws
   summed-walked e w = simp (← size, ← s, ← x, eq-eqb stored sum e, w)
 
 -- back from one place to another
