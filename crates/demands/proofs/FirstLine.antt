@@ -162,7 +162,7 @@ module _ (num held a b : ℕ) (ws : List ℕ) where
       data-given line spells blank =
           let g = long in
           let l : length front ≡ suc (suc q) = omega (arith, length-take-le q ws room) in
-          let e : min (getD (take 14 ws) 10 0) 20 ≡ suc (suc q) = ap (λ k. min k 20) (at 14 10 (omega arith)) ∙ first in
+          let e : min (getD (take 14 ws) 10 0) 20 ≡ suc (suc q) = ap (λ k. min k 20) (getD-take 14 ws 10 0 (omega arith)) ∙ first in
           is-first-line num held line count (spells .0)
           ∙ rw (
             numbers-back num line front spells 0 12 (omega arith),
