@@ -20,7 +20,7 @@ use Rattle.record.proofs.FourCounts.{counts-first, counts-take}
 use Rattle.line_plan.specs.Plan.{plan}
 use Rattle.read_columns.specs.Columns.{columnOf, fieldNumbers, blankAfter}
 use Rattle.read_first_line.specs.FirstLine.{card, fields, gives, Head, counts, countsIn, catalogueFields, headerFields, prologueFields, dataFields, kindFields, cardsRoom, dataRoom, cardsGiven, dataGiven}
-use Rattle.read_first_line.specs.State.{put}
+use Rattle.read_first_line.specs.State.{put, CardLines}
 
 -- words that are put one after the other
 pub put-append : (held : ℕ) (block ws vs : List ℕ) → put held block (ws ++ vs) ≡ put (held + length ws) (put held block ws) vs
@@ -67,11 +67,11 @@ counts-is num row =
     ap (λ c. if ltb (inRange c) 4 then refused (answer 27 num (columnOf (12 + inRange c)) 0) else passed (take 16 row)) (counts-first row)
 
 -- where there is room for cards, their count is small
-pub cards-most : (num held lines : ℕ) → passed tt ≡ cardsRoom num held lines → (1 ≤ lines) × (lines ≤ 199)
+pub cards-most : (num held lines : ℕ) → passed tt ≡ cardsRoom num held lines → CardLines lines
 unfolding cardsRoom
 cards-most num held lines e =
     let o = or-off (ltb lines 1) _ (else-passed (ltb lines 1 || ltb 199 lines) (answer 24 num 1 0) _ tt (sym e) .0) in
-    (ltb-false lines 1 (o .0), ltb-false 199 lines (o .1))
+    record { one = ltb-false lines 1 (o .0); most = ltb-false 199 lines (o .1) }
 
 -- the fields behind the counts, read into the row: LPROL stands where it stood
 pub prologue-on : (num : ℕ) (l row row′ : List ℕ) (v : Verdict Head) → let used = min (getD row 12 0) 20 in 16 ≤ getD row 12 0 → 16 ≤ length row

@@ -2,3 +2,4 @@ pub mod Steps
 pub mod ToCome
 pub mod Heads
 pub mod Fronts
+pub mod Puts

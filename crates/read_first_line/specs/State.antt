@@ -1,12 +1,12 @@
 -- Where the reading of a text stands, as the code keeps it.
-use Prim.Native.Nat.{ℕ, _+_, min}
+use Prim.Native.Nat.{ℕ, _+_, _≤_, min}
 use mathlib.Core.Path.{_≡_}
 use mathlib.Core.List.{List, _++_, map}
 use lib.ListN.{length, getD, take, replicate}
 use lib.Seq.{sets}
 use Rattle.units.specs.Units.{bytesOfWords}
 use Rattle.units.specs.Answers.{Verdict, passed, refused, onward}
-use Rattle.words.specs.Words.{bytesOf}
+use Rattle.words.specs.Words.{bytesOf, mostRecordWords}
 use Rattle.line_plan.specs.Plan.{part, times}
 use Rattle.read_columns.specs.Cases.{flawOf}
 use Rattle.read_first_line.specs.FirstLine.{Shape, card, fields, Read, Head, cards, counts}
@@ -46,6 +46,27 @@ standOf block (Refused f) = refused (flawOf f)
 -- what a step promises: what is read of the line
 pub record Stepped (held : ℕ) (before : List ℕ) (v : Verdict Read) (now : List ℕ) (r : Step) : Type 0 where
   pub is : standOf now r ≡ after held before v
+
+-- what the reading of a line is lent: a row with a place for each of a line's 20 fields, and words held that leave their count in range
+pub record Lent (numbers : List ℕ) (words : ℕ) : Type 0 where
+  pub row : length numbers ≡ 20
+  pub held : words ≤ mostRecordWords
+
+-- the same for a Catalogue or a Header, of whose fields the first `used` count
+pub record LentCards (numbers : List ℕ) (words used : ℕ) : Type 0 where
+  pub lent : Lent numbers words
+  pub two : 2 ≤ used
+  pub most : used ≤ 20
+
+-- the same for a Data record, whose LPROL is in range
+pub record LentData (numbers : List ℕ) (words : ℕ) : Type 0 where
+  pub lent : Lent numbers words
+  pub lprol : 16 ≤ getD numbers 12 0
+
+-- as many lines as a Catalogue or a Header may state
+pub record CardLines (lines : ℕ) : Type 0 where
+  pub one : 1 ≤ lines
+  pub most : lines ≤ 199
 
 -- the head of a record, where the fields of its first line stand in a row
 abbrev pub headOf : List ℕ → Opening → Verdict Head

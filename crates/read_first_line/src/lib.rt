@@ -17,7 +17,7 @@ ghost use Rattle.record.specs.Counts.{countsOf, wordsNeeded};
 ghost use Rattle.line_plan.specs.Plan.{plan};
 ghost use Rattle.read_columns.specs.Cases.{testedOf};
 ghost use Rattle.read_first_line.specs.FirstLine.{card, fields, cards, counts, countsIn, countFields, catalogueFields, headerFields, prologueFields, dataFields, kindFields, firstFields, cardsRoom, dataRoom, cardsGiven, dataGiven, headLine, firstLine};
-ghost use Rattle.read_first_line.specs.State.{toCome, Stepped, put, headOf};
+ghost use Rattle.read_first_line.specs.State.{toCome, Stepped, put, Lent, LentCards, LentData, CardLines, headOf};
 
 // What is to come of a record: cards; or fields of the present part, then `singles` 1-D parts and `rows` 2-D rows.
 pub struct Plan {
@@ -204,7 +204,7 @@ fn put_head(total: Words, kind: u16, used: Words, row: &[u16], block: &mut [u8],
 
 // Puts the 40 words of a Catalogue's or a Header's first line: what its fields do not give is zero.
 fn put_cards_head(total: Words, kind: u16, used: Words, row: &[u16], block: &mut [u8], held: Words)
-    requires { ⌜ (total .0 < 65536) × (2 ≤ used .0) × (used .0 ≤ 20) × (length (now row) ≡ 20) × (held .0 ≤ mostRecordWords) ⌝ }
+    requires { ⌜ (total .0 < 65536) × LentCards (now row) (held .0) (used .0) ⌝ }
     ensures { λ _. ⌜ now (block .exit) ≡ put (held .0) (now (block .entry)) (total .0 ∷ (kind ∷ slice 2 (used .0) (now (row .entry))) ++ replicate (40 - used .0) 0) ⌝ }
 {
     let n = used.0;
@@ -237,7 +237,7 @@ fn cards_room(num: Lines, held: Words, stated: u16) -> Tested
 
 // Puts the words of a Catalogue's or a Header's first line.
 fn put_cards(kind: u16, held: Words, used: Words, row: &[u16], block: &mut [u8]) -> Step
-    requires { ⌜ (2 ≤ used .0) × (used .0 ≤ 20) × (length (now row) ≡ 20) × (1 ≤ getD (now row) 0 0) × (getD (now row) 0 0 ≤ 199) × (held .0 ≤ mostRecordWords) ⌝ }
+    requires { ⌜ LentCards (now row) (held .0) (used .0) × CardLines (getD (now row) 0 0) ⌝ }
     ensures { λ r. ⌜ Stepped (held .0) (now (block .entry)) (cardsGiven kind (take (used .0) (now (row .entry)))) (now (block .exit)) r ⌝ }
 {
     let lines = units::lines_said(row[0]);
@@ -256,7 +256,7 @@ fn cards_line(
     row: &[u16],
     block: &mut [u8],
 ) -> Step
-    requires { ⌜ (2 ≤ used .0) × (used .0 ≤ 20) × (length (now row) ≡ 20) × (held .0 ≤ mostRecordWords) ⌝ }
+    requires { ⌜ LentCards (now row) (held .0) (used .0) ⌝ }
     ensures { λ r. ⌜ Stepped (held .0) (now (block .entry)) (headLine (num .0) (held .0) (cards kind (take (used .0) (now (row .entry))))) (now (block .exit)) r ⌝ }
 {
     match cards_room(num, held, row[0]) {
@@ -298,12 +298,13 @@ fn data_plan(used: Words, c: Counts) -> Plan
     }
 }
 
-// Puts the words of a Data record's first line, whose first `used` fields count.
-fn put_data(held: Words, used: Words, row: &[u16], block: &mut [u8]) -> Step
-    requires { ⌜ (used .0 ≡ min (getD (now row) 12 0) 20) × (16 ≤ used .0) × (length (now row) ≡ 20) × (wordsNeeded (countsOf (now row)) ≤ mostRecordWords) × (held .0 ≤ mostRecordWords) ⌝ }
-    ensures { λ r. ⌜ Stepped (held .0) (now (block .entry)) (dataGiven (take (used .0) (now (row .entry)))) (now (block .exit)) r ⌝ }
+// Puts the words of a Data record's first line.
+fn put_data(held: Words, row: &[u16], block: &mut [u8]) -> Step
+    requires { ⌜ LentData (now row) (held .0) × (wordsNeeded (countsOf (now row)) ≤ mostRecordWords) ⌝ }
+    ensures { λ r. ⌜ Stepped (held .0) (now (block .entry)) (dataGiven (take (min (getD (now (row .entry)) 12 0) 20) (now (row .entry)))) (now (block .exit)) r ⌝ }
 {
     let c = row_counts(row);
+    let used = line_plan::on_line(units::words_said(c.lprol));
     let behind = held.0 + used.0;
     put_head(
         record::words_needed(c),
@@ -318,19 +319,18 @@ fn put_data(held: Words, used: Words, row: &[u16], block: &mut [u8]) -> Step
 
 // A Data record whose counts are in range.
 fn data_line(num: Lines, held: Words, row: &[u16], block: &mut [u8]) -> Step
-    requires { ⌜ (16 ≤ getD (now row) 12 0) × (length (now row) ≡ 20) × (held .0 ≤ mostRecordWords) ⌝ }
+    requires { ⌜ LentData (now row) (held .0) ⌝ }
     ensures { λ r. ⌜ Stepped (held .0) (now (block .entry)) (headLine (num .0) (held .0) (counts (take (min (getD (now (row .entry)) 12 0) 20) (now (row .entry))))) (now (block .exit)) r ⌝ }
 {
-    let used = line_plan::on_line(units::words_said(row[12]));
     match data_room(num, held, row[0], row_counts(row)) {
         Tested::Flawed(f) => Step::Refused(f),
-        Tested::Good => put_data(held, used, row, block),
+        Tested::Good => put_data(held, row, block),
     }
 }
 
 // A record's first line: its fields, then its counts.
 pub fn first_line(num: Lines, held: Words, line: &[u8], row: &mut [u16], block: &mut [u8]) -> Step
-    requires { ⌜ (length (now row) ≡ 20) × (held .0 ≤ mostRecordWords) ⌝ }
+    requires { ⌜ Lent (now row) (held .0) ⌝ }
     ensures { λ r. ⌜ Stepped (held .0) (now (block .entry)) (firstLine (num .0) (held .0) (now (line .entry))) (now (block .exit)) r ⌝ }
 {
     match first_fields(num, line, row) {

@@ -16,9 +16,9 @@ ghost use Rattle.line_plan.specs.Plan.{part, times};
 ghost use Rattle.field.specs.Reading.{columns};
 ghost use Rattle.read_columns.specs.Cases.{testedOf};
 ghost use Rattle.read_first_line.specs.FirstLine.{card, fields};
-ghost use Rattle.read_first_line.specs.State.{toCome, Stepped, put};
+ghost use Rattle.read_first_line.specs.State.{toCome, Stepped, put, Lent};
 ghost use Rattle.read_line.specs.Lines.{rowFields, inState, readLine};
-ghost use Rattle.read_line.specs.State.{Settled};
+ghost use Rattle.read_line.specs.State.{Settled, FieldsNext};
 
 // The parts of this width that take lines: all `count` of them, or none where they have no fields.
 fn parts(count: usize, width: Words) -> usize
@@ -157,7 +157,7 @@ fn fields_line(
     row: &mut [u16],
     block: &mut [u8],
 ) -> Step
-    requires { ⌜ (p .cards .0 ≡ 0) × (0 < p .left .0) × (length (now row) ≡ 20) × (held .0 ≤ mostRecordWords) ⌝ }
+    requires { ⌜ FieldsNext p × Lent (now row) (held .0) ⌝ }
     ensures { λ r. ⌜ Stepped (held .0) (now (block .entry)) (inState (num .0) (held .0) (toCome p) (now (line .entry))) (now (block .exit)) r ⌝ }
 {
     let left = p.left.0;
@@ -176,7 +176,7 @@ fn fields_line(
 
 // What is to come after a line of the present part.
 fn one_line_less(p: Plan, count: Words) -> Plan
-    requires { ⌜ (p .cards .0 ≡ 0) × (0 < p .left .0) × (count .0 ≡ min (p .left .0) 20) ⌝ }
+    requires { ⌜ FieldsNext p × (count .0 ≡ min (p .left .0) 20) ⌝ }
     ensures { λ r. ⌜ toCome p ≡ fields (count .0) ∷ toCome r ⌝ }
 {
     let left = p.left.0 - count.0;
@@ -185,7 +185,7 @@ fn one_line_less(p: Plan, count: Words) -> Plan
 
 // A line where a record may begin: a blank one, or a record's first.
 fn between(p: Plan, num: Lines, held: Words, line: &[u8], row: &mut [u16], block: &mut [u8]) -> Step
-    requires { ⌜ (toCome p ≡ []) × (length (now row) ≡ 20) × (held .0 ≤ mostRecordWords) ⌝ }
+    requires { ⌜ (toCome p ≡ []) × Lent (now row) (held .0) ⌝ }
     ensures { λ r. ⌜ Stepped (held .0) (now (block .entry)) (inState (num .0) (held .0) [] (now (line .entry))) (now (block .exit)) r ⌝ }
 {
     if read_columns::blank_line(line) {
@@ -196,7 +196,7 @@ fn between(p: Plan, num: Lines, held: Words, line: &[u8], row: &mut [u16], block
 
 // Any line that row 20 accepts.
 fn by_plan(p: Plan, num: Lines, held: Words, line: &[u8], row: &mut [u16], block: &mut [u8]) -> Step
-    requires { ⌜ (length (now row) ≡ 20) × (held .0 ≤ mostRecordWords) ⌝ }
+    requires { ⌜ Lent (now row) (held .0) ⌝ }
     ensures { λ r. ⌜ Stepped (held .0) (now (block .entry)) (inState (num .0) (held .0) (toCome p) (now (line .entry))) (now (block .exit)) r ⌝ }
 {
     let q = settled(p);
@@ -219,7 +219,7 @@ pub fn read_line(
     row: &mut [u16],
     block: &mut [u8],
 ) -> Step
-    requires { ⌜ (length (now row) ≡ 20) × (held .0 ≤ mostRecordWords) × (plain .0 ≡ plainIn (now line)) ⌝ }
+    requires { ⌜ Lent (now row) (held .0) × (plain .0 ≡ plainIn (now line)) ⌝ }
     ensures { λ r. ⌜ Stepped (held .0) (now (block .entry)) (readLine (num .0) (held .0) (toCome plan) (now (line .entry))) (now (block .exit)) r ⌝ }
 {
     let right = read_columns::plain_to(line, plain).0;

@@ -28,7 +28,7 @@ module _ (num held : ℕ) (l row : List ℕ) {o : Opening} where
 
 data-line-requires : tie.Need-data-line-requires
 data-line-requires c κs = let f = c .before .before .before .before .before .before in let s = f .before .before .before .before .before in let row = f .first-fields .last .1 .1 .0 in
-    (least-take (min (getD row 12 0) 20) row (first-least (s .args .num .0) (now (s .args .line)) _ (sym (ap (headOf _) (c .before .before .enum-told3 .given .1)) ∙ f .first-fields .ensures)), f .first-fields .kept .1 .1 .0 ∙ s .pre .0, s .pre .1)
+    record { lprol = least-take (min (getD row 12 0) 20) row (first-least (s .args .num .0) (now (s .args .line)) _ (sym (ap (headOf _) (c .before .before .enum-told3 .given .1)) ∙ f .first-fields .ensures)); lent = record { row = f .first-fields .kept .1 .1 .0 ∙ s .pre .row; held = s .pre .held } }
 
 returns : tie.Need-returns
 returns c = let f = c .before .before .before .before .before in stops _ _ (flaw-line _ _ _ _ (c .before .f .given .1) (f .first-fields .ensures))

@@ -27,7 +27,7 @@ returns-2 : tie.Need-returns-2
 returns-2 c = let d = c .before .before .before .before in same-step _ _ (as-settled (d .before .before .before .before .before .before .before)) (d .fields-line .ensures)
 
 between-requires : tie.Need-between-requires
-between-requires c κs = let e = c .before .before in (nothing e, search needs, search needs)
+between-requires c κs = let e = c .before .before in (nothing e, search needs)
 
 returns-3 : tie.Need-returns-3
 returns-3 c = let d = c .before .before .before .before in let e = d .before .before .before in let s = e .before .before .before .before in let a = s .before .before .before .before .args in

@@ -35,7 +35,7 @@ returns-2 c = let a = start-before-row (row-before-block (c .before)) .args in l
     let most : n ≤ 20 = omega (arith, on-line-before-row (row-before-block (c .before)) .on-line .ensures) in
     same-step _ _ (sym (fields-is (a .num .0) (a .held .0) (now (a .line)) (toCome (a .p)) (toCome (row-fields-before-block (c .before) .before .before .one-line-less .result)) n (row-fields-before-block (c .before) .before .before .one-line-less .ensures)))
     (good-goes _ _ (take n row) (c .before .before .before .before .before .enum-told .given .1) (row-fields-before-block (c .before) .row-fields .ensures)
-    (record { is = passed-stand refl (ap (λ k. a .held .0 + k) (sym (length-take-le n row (omega (arith, kept, start-before-row (row-before-block (c .before)) .pre .2))))) (c .before .before .store-words .ensures) }))
+    (record { is = passed-stand refl (ap (λ k. a .held .0 + k) (sym (length-take-le n row (omega (arith, kept, start-before-row (row-before-block (c .before)) .pre .1 .row))))) (c .before .before .store-words .ensures) }))
 
 pub fields-line-spec : {M : Type 1} → statement M
 fields-line-spec =

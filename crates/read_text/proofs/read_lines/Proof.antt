@@ -55,7 +55,7 @@ slice-aggregate-read-line : tie.Need-slice-aggregate-read-line Inv-loop μ-loop
 slice-aggregate-read-line c = sym (c .before .before .before .before .loop .inv .row-long)
 
 read-line-requires : tie.Need-read-line-requires Inv-loop μ-loop
-read-line-requires c κs = let g = c .before .before .before .before .before .loop .inv in (g .row-long, omega (arith, g .room), c .before .before .before .next-line .ensures .plain)
+read-line-requires c κs = let g = c .before .before .before .before .before .loop .inv in (record { row = g .row-long; held = omega (arith, g .room) }, c .before .before .before .next-line .ensures .plain)
 
 same-length : tie.Need-same-length Inv-loop μ-loop
 same-length c = let l = next-line-before-f (c .before) .before .before .loop in let kept-length : length (read-line-before-f (c .before) .read-line .last .1 .1 .1 .1 .1 .1 .0) ≡ length (l .block) = read-line-before-f (c .before) .read-line .kept .1 .1 .1 .1 .1 .1 .0 in kept-length ∙ l .inv .length-kept
