@@ -21,13 +21,16 @@ use Rattle.sheet.proofs.Sheets.{opened-sheet, sheet-opened}
 use Rattle.amending.specs.declared.Objection.{Objection}
 use Rattle.amending.specs.declared.Amended.{Amended}
 use Rattle.amending.specs.declared.Amended.the-variants as amended
-use Rattle.amending.specs.declared.Spot.{Spot}
-use Rattle.amending.specs.declared.Spot.the-variants.{Value, Refused}
-use Rattle.amending.specs.Cases.{objectionOf, amendedOf, spotOf}
-use Rattle.amending.specs.Places.{oldValue, newValue, withValue}
+use Rattle.block_value.specs.declared.Spot.{Spot}
+use Rattle.block_value.specs.declared.Spot.the-variants.{Value, Refused}
+use Rattle.amending.specs.Cases.{objectionOf, amendedOf}
+use Rattle.block_value.specs.declared.Obstacle.{Obstacle}
+use Rattle.block_value.specs.Cases.{obstacleOf, spotOf}
+use Rattle.block_value.specs.Places.{oldValue, newValue, withValue}
 use Rattle.amending.specs.Amending.{Both, buffers, both, amendable, undoable, lastOf, leaving, onBoth, amend, undo}
-use Rattle.amending.specs.Between.{Ready, Exchanged}
-use Rattle.amending.proofs.Patched.{names-value}
+use Rattle.amending.specs.Between.{Ready}
+use Rattle.block_value.specs.Exchange.{Exchanged}
+use Rattle.block_value.proofs.Patched.{names-value}
 use Rattle.amending.proofs.Steps.{amend-places, it-stands, undo-empty, undo-standing, undo-no-place}
 
 -- what the look at block and sheet has found
@@ -75,7 +78,7 @@ module _ {y : Layout} {b s : List ℕ} {count : ℕ} (h : Ready y b s count) whe
       amend-is : amendable y e (both (recordsOf b) (entriesOf y s)) ≡ onward (spotOf spot) (λ _. passed (both (withValue (recordsOf b) e (newValue e)) (entriesOf y s ++ e ∷ [])))
       amend-is = rw (x .place) (amend-places y e (recordsOf b) (entriesOf y s) (omega (arith, h .holds .count-is)))
 
-      pub amend-refused : (r : Objection) → spot ≡ Refused r → buffers (objectionOf r) b′ s ≡ amend y e b s
+      pub amend-refused : (r : Obstacle) → spot ≡ Refused r → buffers (obstacleOf r) b′ s ≡ amend y e b s
       amend-refused r q = rw (x .left, q) (refuses (amendable y e) (rw q at amend-is))
 
       pub amend-done : new ≡ newValue e → (at : Words) {s′ : List ℕ} → spot ≡ Value at → s′ ≡ sheetOf y (entriesOf y s ++ e ∷ []) → buffers (answer 0 (count + 1) 0 0) b′ s′ ≡ amend y e b s
@@ -96,7 +99,7 @@ module _ {y : Layout} {b s : List ℕ} {count : ℕ} (h : Ready y b s count) whe
     last : lastOf (entriesOf y s) ≡ e
     last = rw (← (h .holds .count-is)) (sym is-last)
 
-    pub undo-refused : (r : Objection) → spot ≡ Refused r → buffers (answer 46 0 0 0) b′ s ≡ undo y b s
+    pub undo-refused : (r : Obstacle) → spot ≡ Refused r → buffers (answer 46 0 0 0) b′ s ≡ undo y b s
     undo-refused r q = rw (x .left, q) (refuses undoable (undo-no-place (recordsOf b) (entriesOf y s) some e last (sym (x .place) ∙ ap spotOf q)))
 
     pub undo-done : back ≡ oldValue e → (at : Words) {s′ : List ℕ} → spot ≡ Value at → s′ ≡ sheetOf y (take (count - 1) (entriesOf y s)) → buffers (answer 0 (count - 1) 0 0) b′ s′ ≡ undo y b s

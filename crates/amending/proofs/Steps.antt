@@ -12,10 +12,10 @@ use Rattle.units.specs.declared.Answer.{Answer}
 use Rattle.units.specs.Answers.{answer, Verdict, passed, refused, onward}
 use Rattle.units.proofs.Verdicts.{never-passed}
 use Rattle.sheet.specs.Sheets.{Layout, Entry}
-use Rattle.amending.specs.Places.{recordNumber, oldValue, newValue, noRecord, noValue, found, withValue, stands}
-use Rattle.amending.specs.Between.{valuePlace}
+use Rattle.block_value.specs.Places.{recordNumber, oldValue, newValue, noRecord, noValue, found, withValue, stands}
+use Rattle.block_value.specs.Exchange.{valuePlace}
 use Rattle.amending.specs.Amending.{Both, both, amendable, undoable, lastOf, othersOf}
-use Rattle.amending.proofs.Named.{Named, named-there}
+use Rattle.block_value.proofs.Named.{Named, named-there}
 
 -- a refusal that a test gives goes through
 onward-else : {A B : Type 0} (t : Bool) (r : Answer) (v : Verdict A) (f : A → Verdict B) → onward (if t then refused r else v) f ≡ (if t then refused r else onward v f)

@@ -11,7 +11,7 @@ use Rattle.block.specs.Judging.{judged}
 use Rattle.block.specs.Records.{recordsOf}
 use Rattle.block.specs.Rules.{blockOf}
 use Rattle.sheet.specs.Sheets.{Layout, Entry, sheetOf, entriesOf, opened}
-use Rattle.amending.specs.Places.{recordNumber, oldValue, newValue, noRecord, noValue, found, withValue, stands}
+use Rattle.block_value.specs.Places.{recordNumber, oldValue, newValue, noRecord, noValue, found, withValue, stands}
 
 -- the four numbers, and both buffers afterwards
 pub record Outcome : Type 0 where

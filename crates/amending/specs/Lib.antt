@@ -1,4 +1,3 @@
-pub mod Places
 pub mod Amending
 pub mod Cases
 pub mod Between

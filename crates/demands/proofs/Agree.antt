@@ -41,6 +41,7 @@ use Rattle.sheet.specs.Cases.{openedOf}
 use Rattle.amending.specs.declared.Amended.{Amended}
 use Rattle.amending.specs.declared.Amended.the-variants as amending
 use Rattle.amending.specs.declared.Objection.the-variants as rows
+use Rattle.block_value.specs.declared.Obstacle.the-variants as value
 use Rattle.amending.specs.Cases.{amendedOf}
 use Rattle.amending.specs.Amending.{Outcome}
 use Rattle.demands.specs.Agree.{JudgeAgrees, CedarJudgeAgrees, StepAgrees, FindAgrees, PrefixAgrees, CedarPrefixAgrees, WrittenAgree, CedarWrittenAgree, LinesAgree, CedarLinesAgree, ContentAgrees, BlockAgrees, CedarBlockAgrees, PutAgrees, OpenAgrees, StartAgrees, BothAgree, AmendAgrees, UndoAgrees, CedarStartAgrees, CedarBothAgree, CedarAmendAgrees, CedarUndoAgrees}
@@ -227,9 +228,9 @@ amendedCase : Answer → Amended
 amendedCase r =
     if eqb (r .n) 0 then amending.Standing (r .a)
     else if eqb (r .n) 40 then amending.Refused rows.Broken
-    else if eqb (r .n) 41 then amending.Refused rows.NoRecord
-    else if eqb (r .n) 42 then amending.Refused rows.NoValue
-    else if eqb (r .n) 43 then amending.Refused (rows.Differs (r .a))
+    else if eqb (r .n) 41 then amending.Refused (rows.Value value.NoSuchRecord)
+    else if eqb (r .n) 42 then amending.Refused (rows.Value value.NoValue)
+    else if eqb (r .n) 43 then amending.Refused (rows.Value (value.Differs (r .a)))
     else if eqb (r .n) 44 then amending.Refused rows.Full
     else if eqb (r .n) 45 then amending.Refused rows.Empty
     else if eqb (r .n) 46 then amending.Refused rows.NotStanding
@@ -239,9 +240,9 @@ amended-back : (a : Amended) → amendedCase (answered (amendedOf a)) ≡ a
 unfolding amendedCase
 amended-back (amending.Standing count) = refl
 amended-back (amending.Refused rows.Broken) = refl
-amended-back (amending.Refused rows.NoRecord) = refl
-amended-back (amending.Refused rows.NoValue) = refl
-amended-back (amending.Refused (rows.Differs found)) = refl
+amended-back (amending.Refused (rows.Value value.NoSuchRecord)) = refl
+amended-back (amending.Refused (rows.Value value.NoValue)) = refl
+amended-back (amending.Refused (rows.Value (value.Differs found))) = refl
 amended-back (amending.Refused rows.Full) = refl
 amended-back (amending.Refused rows.Empty) = refl
 amended-back (amending.Refused rows.NotStanding) = refl

@@ -18,8 +18,8 @@ use Rattle.write_lines.specs.Lines.{linesOf}
 use Rattle.write_lines.specs.Text.{textOf}
 use Rattle.write_lines.specs.Columns.{columnsBefore}
 use Rattle.sheet.specs.Sheets.{Entry}
-use Rattle.amending.specs.Places.{recordNumber, newValue, found, withValue}
-use Rattle.amending.proofs.Named.{Named, named-inside}
+use Rattle.block_value.specs.Places.{recordNumber, newValue, found, withValue}
+use Rattle.block_value.proofs.Named.{Named, named-inside}
 use Rattle.demands.specs.Demand3.{putIn, bytesBefore, Outside}
 use Rattle.demands.proofs.Lines.{six-columns, columns-inside, word-stands}
 use Rattle.demands.proofs.Values.{Steady, Alike, its, recordsBefore, wordsBefore, steady-columns, named-word, alike-count, alike-record, alike-named}

@@ -37,7 +37,7 @@ use Rattle.record.specs.Rules.{RecordOk}
 use Rattle.block.proofs.Exact.{only-good}
 use Rattle.sheet.specs.Sheets.{Entry, version1, sheetBytes, sheetOf, entriesOf, broken, countIn, opened, started}
 use Rattle.sheet.proofs.Sheets.{sheet-opened}
-use Rattle.amending.specs.Places.{recordNumber, wordNumber, oldValue, recordIn, noRecord, noValue, found, stands}
+use Rattle.block_value.specs.Places.{recordNumber, wordNumber, oldValue, recordIn, noRecord, noValue, found, stands}
 use Rattle.amending.specs.Amending.{Both, both, amendable, undoable, lastOf, leaving, onBoth}
 use Rattle.units.proofs.Told.{Known}
 

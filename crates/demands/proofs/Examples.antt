@@ -25,7 +25,7 @@ use Rattle.prefix.specs.LookUp.{beside}
 use Rattle.prefix.specs.Table.{table}
 use Rattle.record.specs.Values.{isValue}
 use Rattle.sheet.specs.Sheets.{sheetOf, sheetWith, entriesOf, entries, opened, broken, allZero}
-use Rattle.amending.specs.Places.{noRecord, withValue, stands}
+use Rattle.block_value.specs.Places.{noRecord, withValue, stands}
 use Rattle.amending.specs.Amending.{amendable, undoable, onBoth}
 use Rattle.demands.specs.Examples.{blockK, blockLeast, paperRows, PaperRows, prefixRows, PrefixRows, listingRows, ListingRows, readRows, ReadRows, writtenRows, WrittenRows}
 

@@ -17,9 +17,9 @@ use Rattle.record.specs.Rules.{RecordOk}
 use Rattle.record.specs.Values.{isValue}
 use Rattle.sheet.specs.Sheets.{Layout, Entry}
 use Rattle.sheet.specs.Rules.{IsEntry}
-use Rattle.amending.specs.Places.{recordNumber, wordNumber, oldValue, newValue, recordIn, noRecord, noValue, found, withValue, stands}
+use Rattle.block_value.specs.Places.{recordNumber, wordNumber, oldValue, newValue, recordIn, noRecord, noValue, found, withValue, stands}
 use Rattle.amending.specs.Amending.{Both, both, amendable, lastOf, othersOf, undoable}
-use Rattle.amending.proofs.Named.{is-record, Named}
+use Rattle.block_value.proofs.Named.{is-record, Named}
 use Rattle.amending.proofs.Steps.{amend-passes, undo-standing, it-stands}
 use Rattle.demands.specs.Demand3.{putIn, MayAmend}
 use Rattle.demands.proofs.Values.{Alike, amended-alike, amended-found, put-back, alike-count, alike-value, alike-named}

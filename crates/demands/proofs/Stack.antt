@@ -9,8 +9,8 @@ use Rattle.words.proofs.Lists.{all-map}
 use Rattle.record.specs.Rules.{RecordOk}
 use Rattle.block.specs.Rules.{blockOf, IsBlock}
 use Rattle.sheet.specs.Sheets.{Entry}
-use Rattle.amending.specs.Places.{oldValue, newValue, found, withValue}
-use Rattle.amending.proofs.Named.{Named}
+use Rattle.block_value.specs.Places.{oldValue, newValue, found, withValue}
+use Rattle.block_value.proofs.Named.{Named}
 use Rattle.demands.specs.Demand3.{putIn, Elsewhere}
 use Rattle.demands.proofs.Values.{Alike, steady-size, amended-good, amended-alike, amended-found, alike-count, alike-named, other-found}
 

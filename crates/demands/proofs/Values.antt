@@ -19,8 +19,8 @@ use Rattle.line_plan.specs.Plan.{plan}
 use Rattle.record.proofs.Values.{is-data}
 use Rattle.write_lines.specs.Columns.{endsBefore, columnsBefore}
 use Rattle.sheet.specs.Sheets.{Entry}
-use Rattle.amending.specs.Places.{recordNumber, wordNumber, recordIn, found, withValue}
-use Rattle.amending.proofs.Named.{Named, named-inside, named-value}
+use Rattle.block_value.specs.Places.{recordNumber, wordNumber, recordIn, found, withValue}
+use Rattle.block_value.proofs.Named.{Named, named-inside, named-value}
 use Rattle.demands.specs.Demand3.{Elsewhere}
 
 -- ---- a value's word

@@ -21,7 +21,7 @@ use Rattle.write_lines.specs.Text.{textOf, toLines}
 use Rattle.write_lines.specs.Columns.{columnsBefore}
 use Rattle.sheet.specs.Sheets.{Layout, Entry, sheetOf}
 use Rattle.sheet.specs.Rules.{IsEntry}
-use Rattle.amending.specs.Places.{recordNumber, wordNumber, oldValue, newValue, recordIn, found, withValue}
+use Rattle.block_value.specs.Places.{recordNumber, wordNumber, oldValue, newValue, recordIn, found, withValue}
 use Rattle.amending.specs.Amending.{Outcome, Both, both, amendable, undoable, amend, undo}
 
 -- ---- the calls

@@ -4,9 +4,9 @@ use borrow.Author.Needs.{needs}
 use Rattle.words.specs.Words.{wordsOf}
 use Rattle.record.proofs.Values.{ValueAt}
 use Rattle.block.proofs.Exact.{ok-long}
-use Rattle.amending.proofs.Located.{value-none, value-there, value-differs, value-stands}
-use Rattle.amending.proofs.value_in.Statement.{statement}
-use Rattle.amending.proofs.value_in.Tie as tie
+use Rattle.block_value.proofs.Located.{value-none, value-there, value-differs, value-stands}
+use Rattle.block_value.proofs.value_in.Statement.{statement}
+use Rattle.block_value.proofs.value_in.Tie as tie
 
 there : (c : tie.Else1) → let a = c .before .before .before .before .args in ValueAt (wordsOf (now (a .whole))) (a .word)
 there c = search value-there

@@ -1,7 +1,7 @@
 use borrow.Author.Needs.{needs}
-use Rattle.amending.proofs.Patched.{last-kept}
-use Rattle.amending.proofs.put_value.Statement.{statement}
-use Rattle.amending.proofs.put_value.Tie as tie
+use Rattle.block_value.proofs.Patched.{last-kept}
+use Rattle.block_value.proofs.put_value.Statement.{statement}
+use Rattle.block_value.proofs.put_value.Tie as tie
 
 pub put-value-spec : {M : Type 1} → statement M
 put-value-spec =

@@ -1,9 +1,9 @@
 use denote.Ref.{now}
 use mathlib.Core.Path.{refl, _∙_}
 use native.Mathlib.Omega.{arith}
-use Rattle.amending.proofs.Located.{Located, located, no-record, part-ok, part-value}
-use Rattle.amending.proofs.find_value.Statement.{statement}
-use Rattle.amending.proofs.find_value.Tie as tie
+use Rattle.block_value.proofs.Located.{Located, located, no-record, part-ok, part-value}
+use Rattle.block_value.proofs.find_value.Statement.{statement}
+use Rattle.block_value.proofs.find_value.Tie as tie
 
 it : (c : tie.After-known-told) → let a = c .before .before .before .before .before .args in Located (now (a .block)) (a .e .number) (c .before .at .given .0 .0) (c .before .at .given .0 .1 .0)
 it c = search located

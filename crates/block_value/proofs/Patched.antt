@@ -22,13 +22,13 @@ use Rattle.block.specs.Judging.{Accepted}
 use Rattle.block.specs.Records.{recordsOf}
 use Rattle.block.proofs.Exact.{frame-of, only-good, words-are}
 use Rattle.sheet.specs.Sheets.{Entry}
-use Rattle.amending.specs.Places.{recordNumber, wordNumber, recordIn, noRecord, noValue, found, withValue}
-use Rattle.amending.specs.Between.{Exchanged, valuePlace, patched}
-use Rattle.amending.specs.declared.Objection.{Objection}
-use Rattle.amending.specs.declared.Spot.{Spot}
-use Rattle.amending.specs.declared.Spot.the-variants.{Value, Refused}
-use Rattle.amending.specs.Cases.{objectionOf, spotOf}
-use Rattle.amending.proofs.Named.{is-record, Named, named-inside, named-value}
+use Rattle.block_value.specs.Places.{recordNumber, wordNumber, recordIn, noRecord, noValue, found, withValue}
+use Rattle.block_value.specs.Exchange.{Exchanged, valuePlace, patched}
+use Rattle.block_value.specs.declared.Obstacle.{Obstacle}
+use Rattle.block_value.specs.declared.Spot.{Spot}
+use Rattle.block_value.specs.declared.Spot.the-variants.{Value, Refused}
+use Rattle.block_value.specs.Cases.{obstacleOf, spotOf}
+use Rattle.block_value.proofs.Named.{is-record, Named, named-inside, named-value}
 
 -- a word of a frame changed in its place, and the last word with it
 frame-patched : (ws : List ℕ) (k : ℕ) → k < length ws → (v : ℕ)
@@ -97,7 +97,7 @@ module _ (b : List ℕ) (rs : List (List ℕ)) (g : IsBlock b rs) (e : Entry) (v
 -- ---- an exchange of values
 
 module _ (b : List ℕ) (e : Entry) (old : ℕ) (spot : Spot) (q : spotOf spot ≡ valuePlace (recordsOf b) e old) where
-  pub exchange-refused : (new : ℕ) (r : Objection) → spot ≡ Refused r → Exchanged b e old new (refused (objectionOf r)) b
+  pub exchange-refused : (new : ℕ) (r : Obstacle) → spot ≡ Refused r → Exchanged b e old new (refused (obstacleOf r)) b
   exchange-refused new r f = record { place = ap spotOf (sym f) ∙ q; left = refl }
 
   module _ (bytes : Below 256 b) (accepted : Accepted b) (at : Words) (f : spot ≡ Value at) where

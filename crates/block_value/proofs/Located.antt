@@ -24,9 +24,9 @@ use Rattle.block.specs.declared.Place.{Place}
 use Rattle.block.specs.declared.Place.the-variants.{Record, NoMore}
 use Rattle.block.proofs.Placed.{others-left, first-left, find-record}
 use Rattle.sheet.specs.Sheets.{Entry}
-use Rattle.amending.specs.Places.{recordNumber, wordNumber, recordIn, noRecord}
-use Rattle.amending.specs.Between.{valueIn, valuePlace}
-use Rattle.amending.proofs.Named.{is-record}
+use Rattle.block_value.specs.Places.{recordNumber, wordNumber, recordIn, noRecord}
+use Rattle.block_value.specs.Exchange.{valueIn, valuePlace}
+use Rattle.block_value.proofs.Named.{is-record}
 
 -- of records that stand one after the other: none where there is no such number, or this one behind the others
 placed-is : (rs : List (List ℕ)) (at n : ℕ) → placed rs at n ≡ (if noRecord rs n then NoMore else placeOf (at + length (joined (take (n - 1) rs))) (length (recordIn rs n)))

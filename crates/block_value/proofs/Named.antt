@@ -14,7 +14,7 @@ use Rattle.record.specs.Rules.{RecordOk}
 use Rattle.record.specs.Values.{isValue}
 use Rattle.record.proofs.Values.{ValueAt, value-at}
 use Rattle.sheet.specs.Sheets.{Entry}
-use Rattle.amending.specs.Places.{recordNumber, wordNumber, recordIn, noRecord}
+use Rattle.block_value.specs.Places.{recordNumber, wordNumber, recordIn, noRecord}
 
 -- where row 41 is not given
 pub is-record : (rs : List (List ℕ)) (n : ℕ) → noRecord rs n ≡ false → (1 ≤ n) × (n ≤ length rs)

@@ -1,7 +1,7 @@
 use borrow.Author.Needs.{needs}
-use Rattle.amending.proofs.Patched.{exchange-refused, spot-within, exchange-done}
-use Rattle.amending.proofs.exchange.Statement.{statement}
-use Rattle.amending.proofs.exchange.Tie as tie
+use Rattle.block_value.proofs.Patched.{exchange-refused, spot-within, exchange-done}
+use Rattle.block_value.proofs.exchange.Statement.{statement}
+use Rattle.block_value.proofs.exchange.Tie as tie
 
 pub exchange-spec : {M : Type 1} → statement M
 exchange-spec =
