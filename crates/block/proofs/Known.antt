@@ -20,7 +20,7 @@ use Rattle.words.proofs.Laws.{words-below, getD-below}
 use Rattle.words.proofs.Lists.{all-take, all-drop}
 use Rattle.words.proofs.Xor.{fold-below}
 use Rattle.words.specs.Scans.{passing, someFails, isZero}
-use Rattle.record.specs.Counts.{countsOf, wordsNeeded, inRange}
+use Rattle.counts.specs.Counts.{countsOf, wordsNeeded, inRange}
 use Rattle.record.specs.Judging.{cardWord, wrongTotal, wrongDataTotal, judgeContent, judgeCards, judgeCounts, judgeData, judgeRecord}
 use Rattle.record.proofs.Passed.{total-right}
 use Rattle.block.specs.Cases.{BlockRow, judgedOf}

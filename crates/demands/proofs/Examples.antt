@@ -2,7 +2,7 @@
 use mathlib.Core.Path.{refl}
 use lib.Count.{ones, onesIn}
 use Rattle.words.specs.Words.{wordsOf, bytesOf, xorAll, joined, framed}
-use Rattle.record.specs.Counts.{underLeast, inRange}
+use Rattle.counts.specs.Counts.{underLeast, inRange}
 use Rattle.record.specs.Judging.{wrongTotal, judgeContent, judgeCards, judgeCounts, judgeData, judgeRecord}
 use Rattle.words.specs.Scans.{passing, wordWithin}
 use Rattle.block.specs.Judging.{wrongSize, walk, judged}

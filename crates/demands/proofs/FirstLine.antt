@@ -12,10 +12,10 @@ use Rattle.units.specs.Choice.{if_then_else_}
 use Rattle.units.specs.Answers.{answer, passed, refused, onward}
 use Rattle.read_columns.specs.Columns.{columnOf}
 use Rattle.words.specs.Words.{word, All, mostRecordWords}
-use Rattle.record.specs.Counts.{countsOf, wordsNeeded, linesNeeded, inRange}
+use Rattle.counts.specs.Counts.{countsOf, wordsNeeded, linesNeeded, inRange}
 use Rattle.record.specs.Lines.{lineCount}
 use Rattle.record.specs.Rules.{CardsOk, DataOk, KindOk, catalogue, header, dataRecord, RecordOk}
-use Rattle.record.proofs.FourCounts.{ok-range}
+use Rattle.counts.proofs.FourCounts.{ok-range}
 use Rattle.line_plan.specs.Plan.{plan, dataPlan, kindShown}
 use Rattle.units.specs.Units.{Line}
 use Rattle.write_lines.proofs.Sizes.{is-cards, data-count}

@@ -7,9 +7,10 @@ use lib.ListN.{length, getD, drop, replicate, length-append, length-drop, length
 use lib.Seq.{take-length, take-at, drop-at, getD-drop}
 use Rattle.words.specs.Words.{word, wordsOf, All, Below}
 use Rattle.words.proofs.Lists.{all-append, all-drop, all-replicate, all-map}
-use Rattle.record.specs.Counts.{countsOf, wordsNeeded, linesNeeded}
+use Rattle.counts.specs.Counts.{countsOf, wordsNeeded, linesNeeded}
 use Rattle.record.specs.Lines.{lineCount}
-use Rattle.record.specs.Rules.{CardWord, CardsOk, CountsOk, DataOk, KindOk, catalogue, header, dataRecord, RecordOk}
+use Rattle.record.specs.Rules.{CardWord, CardsOk, DataOk, KindOk, catalogue, header, dataRecord, RecordOk}
+use Rattle.counts.specs.Rules.{CountsOk}
 use Rattle.field.specs.Reading.{columns}
 use Rattle.line_plan.specs.Plan.{plan, dataPlan, kindShown, shownWords}
 use Rattle.units.specs.Units.{Line}

@@ -14,8 +14,8 @@ use Rattle.words.specs.Words.{word, joined, All, Below}
 use Rattle.words.proofs.Lists.{all-append, all-replicate}
 use Rattle.words.proofs.Laws.{length-bytesOf}
 use Rattle.words.proofs.Stores.{sets-left, sets-right}
-use Rattle.record.specs.declared.Counts.{Counts}
-use Rattle.record.specs.Counts.{countsOf, linesNeeded}
+use Rattle.counts.specs.declared.Counts.{Counts}
+use Rattle.counts.specs.Counts.{countsOf, linesNeeded}
 use Rattle.record.specs.Lines.{lineCount}
 use Rattle.record.specs.Rules.{KindOk, catalogue, header, dataRecord, RecordOk}
 use Rattle.block.specs.Rules.{blockOf, IsBlock}
@@ -23,7 +23,7 @@ use Rattle.block.proofs.Exact.{every-good, its-records}
 use Rattle.field.specs.Writing.{fieldOf}
 use Rattle.field.proofs.Written.{length-fieldOf}
 use Rattle.write_parts.specs.Laid.{fieldsOf, laid, cardLines, ended}
-use Rattle.record.proofs.FourCounts.{counts-set}
+use Rattle.counts.proofs.FourCounts.{counts-set}
 use Rattle.line_plan.specs.Plan.{shorter, part, times, plan, dataPlan, shownWords}
 use Rattle.write_parts.proofs.Turns.{length-fieldsOf}
 use Rattle.line_plan.proofs.Plans.{fieldsIn, length-plan, fieldsIn-plan}

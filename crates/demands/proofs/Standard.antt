@@ -12,7 +12,7 @@ use Rattle.units.specs.Answers.{passed}
 use Rattle.words.specs.Words.{word, bytesOf, joined, All, Below, mostRecordWords}
 use Rattle.words.proofs.Lists.{all-take, all-drop, all-append, all-getD, all-map}
 use Rattle.words.proofs.Laws.{length-bytesOf, words-bytes, getD-below}
-use Rattle.record.specs.Counts.{countsOf}
+use Rattle.counts.specs.Counts.{countsOf}
 use Rattle.record.specs.Lines.{lineCount}
 use Rattle.record.specs.Rules.{CardWord, CardsOk, KindOk, catalogue, header, dataRecord, RecordOk}
 use Rattle.field.specs.declared.Number.the-variants.{Word}

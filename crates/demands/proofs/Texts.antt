@@ -10,7 +10,7 @@ use lib.Seq.{take-at, drop-at}
 use Rattle.units.specs.Answers.{passed}
 use Rattle.words.specs.Words.{word, joined, All, mostRecordWords}
 use Rattle.words.proofs.Lists.{all-parts}
-use Rattle.record.specs.Counts.{countsOf}
+use Rattle.counts.specs.Counts.{countsOf}
 use Rattle.record.specs.Lines.{lineCount}
 use Rattle.record.specs.Rules.{RecordOk}
 use Rattle.block.proofs.Exact.{ok-long}

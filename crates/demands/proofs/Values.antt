@@ -11,10 +11,11 @@ use lib.Seq.{getD-set-same, getD-set-other, set-getD, set-set, map-set-same}
 use Rattle.words.specs.Words.{word, All}
 use Rattle.words.proofs.Lists.{all-at, all-set}
 use Rattle.units.specs.Units.{columnsOfFields, endsOfLines}
-use Rattle.record.specs.Counts.{countsOf, wordsNeeded}
-use Rattle.record.specs.Rules.{CountsOk, dataRecord, RecordOk}
-use Rattle.record.specs.Values.{amongValues, isValue}
-use Rattle.record.proofs.FourCounts.{counts-set}
+use Rattle.counts.specs.Counts.{countsOf, wordsNeeded, amongValues}
+use Rattle.record.specs.Rules.{dataRecord, RecordOk}
+use Rattle.counts.specs.Rules.{CountsOk}
+use Rattle.record.specs.Values.{isValue}
+use Rattle.counts.proofs.FourCounts.{counts-set}
 use Rattle.line_plan.specs.Plan.{plan}
 use Rattle.record.proofs.Values.{is-data}
 use Rattle.write_lines.specs.Columns.{endsBefore, columnsBefore}

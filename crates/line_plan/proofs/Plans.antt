@@ -9,8 +9,8 @@ use borrow.Author.Tests.{ltb-true, ltb-false}
 use lib.Dec.{ltb}
 use lib.ListN.{length, replicate, length-append, length-replicate}
 use Rattle.units.specs.Units.{linesOfFields}
-use Rattle.record.specs.declared.Counts.{Counts}
-use Rattle.record.specs.Counts.{wordsNeeded, linesNeeded}
+use Rattle.counts.specs.declared.Counts.{Counts}
+use Rattle.counts.specs.Counts.{wordsNeeded, linesNeeded}
 use Rattle.line_plan.specs.Plan.{shorter, part, times, plan}
 
 -- the first line of a part, and the others

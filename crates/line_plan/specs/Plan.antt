@@ -5,8 +5,8 @@ use lib.Dec.{eqb}
 use lib.ListN.{drop, replicate}
 use Rattle.units.specs.Choice.{if_then_else_}
 use Rattle.words.specs.Words.{word}
-use Rattle.record.specs.declared.Counts.{Counts}
-use Rattle.record.specs.Counts.{countsOf}
+use Rattle.counts.specs.declared.Counts.{Counts}
+use Rattle.counts.specs.Counts.{countsOf}
 use Rattle.record.specs.Lines.{lineCount}
 
 -- a last line of n fields; "a part with no fields takes no line"

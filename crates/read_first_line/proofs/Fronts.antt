@@ -13,8 +13,8 @@ use Rattle.units.specs.Answers.{answer, Verdict, passed, refused, onward}
 use Rattle.units.proofs.Verdicts.{never-passed, else-passed}
 use Rattle.units.proofs.Choosing.{both-ways}
 use Rattle.words.specs.Words.{word}
-use Rattle.record.specs.Counts.{countsOf, inRange}
-use Rattle.record.proofs.FourCounts.{range-ok}
+use Rattle.counts.specs.Counts.{countsOf, inRange}
+use Rattle.counts.proofs.FourCounts.{range-ok}
 use Rattle.read_columns.specs.Columns.{columnOf, fieldNumbers, zeroFields, blankAfter}
 use Rattle.read_first_line.specs.FirstLine.{Head, cards, counts, countsIn, countFields, catalogueFields, headerFields, prologueFields, dataFields, kindFields, firstFields}
 

@@ -11,12 +11,12 @@ use lib.Seq.{sets, slice, getD-take, length-take-le, length-slice}
 use Rattle.units.specs.Choice.{if_then_else_}
 use Rattle.units.specs.Answers.{answer, Verdict, passed, refused, onward}
 use Rattle.units.proofs.Verdicts.{never-passed, else-passed, or-off}
-use Rattle.record.specs.declared.Counts.{Counts}
+use Rattle.counts.specs.declared.Counts.{Counts}
 use Rattle.words.specs.Words.{bytesOf, mostRecordWords}
 use Rattle.words.proofs.Laws.{bytes-append, length-bytesOf}
 use Rattle.words.proofs.Writing.{sets-append}
-use Rattle.record.specs.Counts.{countsOf, wordsNeeded, inRange}
-use Rattle.record.proofs.FourCounts.{counts-first, counts-take}
+use Rattle.counts.specs.Counts.{countsOf, wordsNeeded, inRange}
+use Rattle.counts.proofs.FourCounts.{counts-first, counts-take}
 use Rattle.line_plan.specs.Plan.{plan}
 use Rattle.read_columns.specs.Columns.{columnOf, fieldNumbers, blankAfter}
 use Rattle.read_first_line.specs.FirstLine.{card, fields, gives, Head, counts, countsIn, catalogueFields, headerFields, prologueFields, dataFields, kindFields, cardsRoom, dataRoom, cardsGiven, dataGiven}

@@ -6,9 +6,9 @@ use native.Mathlib.Omega.{arith}
 use lib.ListN.{length, getD, take, drop, replicate}
 use lib.Seq.{slice, getD-take}
 use Rattle.units.specs.declared.Words.{Words}
-use Rattle.record.specs.declared.Counts.{Counts}
-use Rattle.record.specs.Counts.{countsOf, wordsNeeded}
-use Rattle.record.proofs.FourCounts.{counts-take}
+use Rattle.counts.specs.declared.Counts.{Counts}
+use Rattle.counts.specs.Counts.{countsOf, wordsNeeded}
+use Rattle.counts.proofs.FourCounts.{counts-take}
 use Rattle.words.specs.Words.{mostRecordWords}
 use Rattle.read_columns.specs.declared.Flaw.{Flaw}
 use Rattle.read_columns.specs.declared.Tested.{Tested}

@@ -3,7 +3,7 @@ use mathlib.Core.Path.{_≡_, ap}
 use mathlib.Core.List.{List, _∷_, _++_}
 use Prim.Native.Nat.{ℕ, _-_, _<_, min}
 use lib.ListN.{drop}
-use Rattle.record.specs.declared.Counts.{Counts}
+use Rattle.counts.specs.declared.Counts.{Counts}
 use Rattle.line_plan.specs.Plan.{part, tables, plan}
 use Rattle.line_plan.proofs.Plans.{part-turn}
 

@@ -8,8 +8,8 @@ use Rattle.units.specs.Choice.{if_then_else_}
 use Rattle.units.specs.Units.{Line, wordsOfCards, columnsOfFields}
 use Rattle.units.specs.Answers.{answer, Verdict, passed, refused, onward}
 use Rattle.words.specs.Words.{word, mostRecordWords}
-use Rattle.record.specs.declared.Counts.{Counts}
-use Rattle.record.specs.Counts.{countsOf, wordsNeeded, linesNeeded, inRange}
+use Rattle.counts.specs.declared.Counts.{Counts}
+use Rattle.counts.specs.Counts.{countsOf, wordsNeeded, linesNeeded, inRange}
 use Rattle.line_plan.specs.Plan.{plan}
 use Rattle.read_columns.specs.Columns.{blankAfter, columnOf, fieldNumbers, zeroFields}
 

@@ -1,7 +1,7 @@
 // Reads a record's first line, which says what is to come of the record, and puts its words into a block as far as that has room.
+use counts::Counts;
 use read_columns::Flaw;
 use read_columns::Tested;
-use record::Counts;
 use units::Lines;
 use units::Words;
 ghost use mathlib.Core.Path.{_≡_};
@@ -13,7 +13,7 @@ ghost use Rattle.words.specs.Words.{mostRecordWords};
 ghost use Rattle.units.specs.Units.{columnsOfFields};
 ghost use Rattle.units.specs.Answers.{passed, onward};
 ghost use Rattle.read_columns.specs.Columns.{blankAfter, zeroFields};
-ghost use Rattle.record.specs.Counts.{countsOf, wordsNeeded};
+ghost use Rattle.counts.specs.Counts.{countsOf, wordsNeeded};
 ghost use Rattle.line_plan.specs.Plan.{plan};
 ghost use Rattle.read_columns.specs.Cases.{testedOf};
 ghost use Rattle.read_first_line.specs.FirstLine.{card, fields, cards, counts, countsIn, countFields, catalogueFields, headerFields, prologueFields, dataFields, kindFields, firstFields, cardsRoom, dataRoom, cardsGiven, dataGiven, headLine, firstLine};
@@ -106,7 +106,7 @@ fn counts_in(num: Lines, row: &[u16]) -> Tested
     requires { ⌜ length (now row) ≡ 20 ⌝ }
     ensures { λ r. ⌜ testedOf (take 16 (now (row .entry))) r ≡ countsIn (num .0) (take 16 (now (row .entry))) ⌝ }
 {
-    let right = record::in_range(row_counts(row));
+    let right = counts::in_range(row_counts(row));
     if right < 4 {
         let field = 12 + right as usize;
         return Tested::Flawed(Flaw::Range(num, read_columns::column_of(Words(field))));
@@ -271,11 +271,11 @@ fn data_room(num: Lines, held: Words, lines: u16, c: Counts) -> Tested
     ensures { λ r. ⌜ testedOf tt r ≡ dataRoom (num .0) (held .0) lines c ⌝ }
 {
     let before = held.0;
-    let all = before + record::words_needed(c).0;
+    let all = before + counts::words_needed(c).0;
     if words::MOST_RECORD_WORDS < all {
         return Tested::Flawed(Flaw::Much(num));
     }
-    if lines as usize != record::lines_needed(c).0 {
+    if lines as usize != counts::lines_needed(c).0 {
         return Tested::Flawed(Flaw::Count(num));
     }
     Tested::Good
@@ -307,7 +307,7 @@ fn put_data(held: Words, row: &[u16], block: &mut [u8]) -> Step
     let used = line_plan::on_line(units::words_said(c.lprol));
     let behind = held.0 + used.0;
     put_head(
-        record::words_needed(c),
+        counts::words_needed(c),
         record::DATA,
         used,
         row,

@@ -11,10 +11,10 @@ use lib.ListN.{length, getD, drop, replicate, length-append, length-drop, length
 use Rattle.units.specs.Answers.{answer, passed, refused}
 use Rattle.units.proofs.Verdicts.{or-off}
 use Rattle.words.specs.Words.{word, mostRecordWords}
-use Rattle.record.specs.declared.Counts.{Counts}
-use Rattle.record.specs.Counts.{countsOf, wordsNeeded, linesNeeded, inRange}
-use Rattle.record.specs.Rules.{CountsOk}
-use Rattle.record.proofs.FourCounts.{range-ok, counts-append}
+use Rattle.counts.specs.declared.Counts.{Counts}
+use Rattle.counts.specs.Counts.{countsOf, wordsNeeded, linesNeeded, inRange}
+use Rattle.counts.specs.Rules.{CountsOk}
+use Rattle.counts.proofs.FourCounts.{range-ok, counts-append}
 use Rattle.line_plan.specs.Plan.{plan, dataPlan}
 use Rattle.units.specs.Units.{Line}
 use Rattle.line_plan.proofs.Plans.{fieldsIn, part-turn, fieldsIn-plan}

@@ -14,9 +14,10 @@ use Rattle.words.specs.Words.{word, All, Below}
 use Rattle.words.proofs.Lists.{all-take}
 use Rattle.record.specs.Judging.{cardWord}
 use Rattle.words.specs.Scans.{passing, within, wordWithin, isZero}
-use Rattle.record.specs.Counts.{wordsNeeded}
-use Rattle.record.specs.Rules.{CardWord, CardsOk, CountsOk, DataOk, KindOk, catalogue, header, dataRecord, RecordOk}
-use Rattle.record.proofs.FourCounts.{counts-take, counts-append}
+use Rattle.counts.specs.Counts.{wordsNeeded}
+use Rattle.record.specs.Rules.{CardWord, CardsOk, DataOk, KindOk, catalogue, header, dataRecord, RecordOk}
+use Rattle.counts.specs.Rules.{CountsOk}
+use Rattle.counts.proofs.FourCounts.{counts-take, counts-append}
 use Rattle.record.proofs.Passed.{CardsPassed, DataPassed, RecordPassed, a-catalogue, a-header, a-data}
 
 -- ---- a scan that finds no offender, and the other way

@@ -1,4 +1,3 @@
-pub mod FourCounts
 pub mod Passed
 pub mod Exact
 pub mod Values

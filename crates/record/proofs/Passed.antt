@@ -12,9 +12,9 @@ use Rattle.units.specs.Answers.{answer, passed, refused}
 use Rattle.units.proofs.Verdicts.{never-passed, else-passed, or-off}
 use Rattle.words.specs.Words.{word, words}
 use Rattle.words.specs.Scans.{passing, someFails, isZero}
-use Rattle.record.specs.Counts.{countsOf, wordsNeeded, inRange}
-use Rattle.record.specs.Rules.{CountsOk}
-use Rattle.record.proofs.FourCounts.{range-ok, ok-range}
+use Rattle.counts.specs.Counts.{countsOf, wordsNeeded, inRange}
+use Rattle.counts.specs.Rules.{CountsOk}
+use Rattle.counts.proofs.FourCounts.{range-ok, ok-range}
 use Rattle.record.specs.Judging.{TotalRight, cardWord, wrongTotal, judgeContent, judgeCards, judgeCounts, judgeData, judgeRecord}
 
 pub total-right : (total left : ℕ) → wrongTotal total left ≡ false → TotalRight total left

@@ -9,7 +9,7 @@ use lib.Dec.{leb, eqb}
 use lib.ListN.{length}
 use Rattle.units.proofs.Verdicts.{and-on, either-on}
 use Rattle.words.specs.Words.{word}
-use Rattle.record.specs.Counts.{countsOf, wordsNeeded}
+use Rattle.counts.specs.Counts.{countsOf, wordsNeeded}
 use Rattle.words.specs.Scans.{within}
 use Rattle.record.specs.Rules.{DataOk, KindOk, catalogue, header, dataRecord, RecordOk}
 use Rattle.record.specs.Values.{isValue}

@@ -9,8 +9,8 @@ use Rattle.units.specs.Choice.{if_then_else_}
 use Rattle.units.specs.Answers.{answer, Verdict, passed, refused}
 use Rattle.words.specs.Words.{word, words}
 use Rattle.words.specs.Scans.{passing, someFails, wordWithin, isZero}
-use Rattle.record.specs.declared.Counts.{Counts}
-use Rattle.record.specs.Counts.{countsOf, wordsNeeded, inRange}
+use Rattle.counts.specs.declared.Counts.{Counts}
+use Rattle.counts.specs.Counts.{countsOf, wordsNeeded, inRange}
 
 -- "Each card is 80 bytes, each from 32 to 126"
 abbrev pub cardWord : ℕ → Bool

@@ -1,4 +1,3 @@
-pub mod Counts
 pub mod Judging
 pub mod Cases
 pub mod Lines

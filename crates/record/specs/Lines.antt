@@ -6,7 +6,7 @@ use lib.ListN.{length}
 use Rattle.units.specs.Choice.{if_then_else_}
 use Rattle.units.specs.Units.{linesOfCards}
 use Rattle.words.specs.Words.{word}
-use Rattle.record.specs.Counts.{countsOf, linesNeeded}
+use Rattle.counts.specs.Counts.{countsOf, linesNeeded}
 
 -- a record's line count
 unfoldable pub lineCount : List ℕ → ℕ

@@ -1,11 +1,11 @@
 -- Document 01, "The binary block": what a good record is, with no order of tests in it.
 use mathlib.Core.Path.{_≡_}
 use mathlib.Core.List.{List}
-use Prim.Native.Nat.{ℕ, _+_, _*_, _/_, _%_, _≤_, _<_}
+use Prim.Native.Nat.{ℕ, _+_, _*_, _/_, _%_, _≤_}
 use lib.ListN.{length}
 use Rattle.words.specs.Words.{word, words, All, Below}
-use Rattle.record.specs.declared.Counts.{Counts}
-use Rattle.record.specs.Counts.{countsOf, wordsNeeded}
+use Rattle.counts.specs.Counts.{countsOf, wordsNeeded}
+use Rattle.counts.specs.Rules.{CountsOk}
 
 -- "each from 32 to 126": both bytes of a card's word
 pub record CardWord (w : ℕ) : Type 0 where
@@ -20,18 +20,6 @@ pub record CardsOk (z : ℕ) (r : List ℕ) : Type 0 where
   pub size : length r ≡ 40 * (1 + cards)
   pub zeros : All (λ w. w ≡ 0) (words r z 40)
   pub printed : All CardWord (words r 41 (length r))
-
--- a count that is at least this, in two's complement
-pub record Least (least w : ℕ) : Type 0 where
-  pub least-is : least ≤ w
-  pub sign : w < 32768
-
--- "LPROL is at least 16, the others at least 0"
-pub record CountsOk (c : Counts) : Type 0 where
-  pub lprol : Least 16 (c .lprol)
-  pub jpar : Least 0 (c .jpar)
-  pub mpar : Least 0 (c .mpar)
-  pub nrow : Least 0 (c .nrow)
 
 -- "LTOT = LPROL + 2 JPAR + MPAR (NROW + 1)"
 pub record DataOk (r : List ℕ) : Type 0 where

@@ -1,32 +1,24 @@
 // One record: its kind, its counts, what must be zero, its cards, and its lines.
+use counts::Counts;
 use units::Answer;
 use units::Lines;
 use units::Words;
 ghost use mathlib.Core.Path.{_≡_};
-ghost use Prim.Native.Nat.{_+_, _*_, _<_, _≤_};
+ghost use Prim.Native.Nat.{_+_, _<_, _≤_};
 ghost use lib.ListN.{length};
 ghost use lib.Seq.{slice};
 ghost use Rattle.words.specs.Words.{wordsOf};
-ghost use Rattle.words.specs.Scans.{passing, within, wordWithin};
-ghost use Rattle.record.specs.Counts.{countsOf, wordsNeeded, linesNeeded, underLeast, inRange};
+ghost use Rattle.words.specs.Scans.{passing, wordWithin};
 ghost use Rattle.record.specs.Judging.{TotalRight, wrongTotal, wrongDataTotal, judgeContent, judgeCards, judgeCounts, judgeData, judgeRecord};
 ghost use Rattle.record.specs.Cases.{faultOf, checkedOf};
 ghost use Rattle.record.specs.Lines.{lineCount};
-ghost use Rattle.record.specs.Values.{amongValues, isValue};
+ghost use Rattle.record.specs.Values.{isValue};
 
 pub const CATALOGUE: u16 = 2001;
 
 pub const HEADER: u16 = 3002;
 
 pub const DATA: u16 = 1002;
-
-// The four counts of a Data record: its prologue, its 1-D parameters, its 2-D parameters, its rows.
-pub struct Counts {
-    pub lprol: u16,
-    pub jpar: u16,
-    pub mpar: u16,
-    pub nrow: u16,
-}
 
 // What is wrong with a record: the record's number, and the word's where it varies.
 pub enum Fault {
@@ -98,71 +90,16 @@ fn judge_cards(rest: &[u8], number: u16, first: Words) -> Checked
     judge_content(rest, number, first, total)
 }
 
-// The four counts of a Data record.
-pub fn counts_of(whole: &[u8]) -> Counts
-    requires { ⌜ 16 ≤ length (wordsOf (now whole)) ⌝ }
-    ensures { λ r. ⌜ r ≡ countsOf (wordsOf (now (whole .entry))) ⌝ }
-{
-    let lprol = words::word_at(whole, Words(12));
-    let jpar = words::word_at(whole, Words(13));
-    let mpar = words::word_at(whole, Words(14));
-    let nrow = words::word_at(whole, Words(15));
-    Counts {
-        lprol,
-        jpar,
-        mpar,
-        nrow,
-    }
-}
-
-// The words that the counts need, in a width that holds them.
-pub fn words_needed(c: Counts) -> Words
-    ensures { λ r. ⌜ r .0 ≡ wordsNeeded c ⌝ }
-{
-    let rows = (c.mpar as usize) * (c.nrow as usize + 1);
-    let sum = c.lprol as usize + 2 * (c.jpar as usize) + rows;
-    Words(sum)
-}
-
-// A count is under its least value: words are two's complement.
-fn under(least: u16, w: u16) -> bool
-    ensures { λ r. ⌜ r ≡ underLeast least w ⌝ }
-{
-    if w < least {
-        return true;
-    }
-    32768 <= w
-}
-
-// Of the four counts, those before the first that is under its least value.
-pub fn in_range(c: Counts) -> u16
-    ensures { λ r. ⌜ r ≡ inRange c ⌝ }
-{
-    if under(16, c.lprol) {
-        return 0;
-    }
-    if under(0, c.jpar) {
-        return 1;
-    }
-    if under(0, c.mpar) {
-        return 2;
-    }
-    if under(0, c.nrow) {
-        return 3;
-    }
-    4
-}
-
 // A Data record of `total` words, by its counts.
 fn judge_counts(number: u16, total: Words, c: Counts) -> Checked
     ensures { λ r. ⌜ checkedOf r ≡ judgeCounts number (total .0) c ⌝ }
 {
-    let right = in_range(c);
+    let right = counts::in_range(c);
     if right < 4 {
         let word = 13 + right;
         return Checked::Refused(Fault::Counts(number, word));
     }
-    let needed = words_needed(c).0;
+    let needed = counts::words_needed(c).0;
     if total.0 != needed {
         return Checked::Refused(Fault::Counts(number, 1));
     }
@@ -190,7 +127,7 @@ fn judge_data(rest: &[u8], number: u16) -> Checked
     if wrong_data_total(total, words::count(rest)) {
         return Checked::Refused(Fault::Total(number));
     }
-    judge_counts(number, total, counts_of(rest))
+    judge_counts(number, total, counts::counts_of(rest))
 }
 
 // The record that stands first in the rest of the record words.
@@ -214,17 +151,6 @@ pub fn judge_record(rest: &[u8], number: u16) -> Checked
     Checked::Refused(Fault::Kind(number))
 }
 
-// The lines that the counts need.
-pub fn lines_needed(c: Counts) -> Lines
-    ensures { λ r. ⌜ r .0 ≡ linesNeeded c ⌝ }
-{
-    let prologue = units::lines_of_fields(units::words_said(c.lprol)).0;
-    let single = units::lines_of_fields(units::words_said(c.jpar)).0;
-    let row = units::lines_of_fields(units::words_said(c.mpar)).0;
-    let rows = row * (c.nrow as usize + 1);
-    Lines(prologue + 2 * single + rows)
-}
-
 // The lines of a good record.
 pub fn line_count(whole: &[u8]) -> Lines
     requires { ⌜ 16 ≤ length (wordsOf (now whole)) ⌝ }
@@ -233,26 +159,7 @@ pub fn line_count(whole: &[u8]) -> Lines
     if words::word_at(whole, Words(1)) != DATA {
         return units::lines_of_cards(words::count(whole));
     }
-    lines_needed(counts_of(whole))
-}
-
-// A word's number lies from `least` to `most`.
-fn is_between(word: usize, least: usize, most: usize) -> bool
-    ensures { λ r. ⌜ r ≡ within least most word ⌝ }
-{
-    least <= word && word <= most
-}
-
-// Word `word` of a Data record with these counts is a 1-D or a 2-D value.
-fn among_values(word: Words, c: Counts) -> bool
-    ensures { λ r. ⌜ r ≡ amongValues c (word .0) ⌝ }
-{
-    let w = word.0;
-    let codes = c.lprol as usize + c.jpar as usize;
-    let values = codes + c.jpar as usize;
-    let row_codes = values + c.mpar as usize;
-    let last = words_needed(c).0;
-    is_between(w, codes + 1, values) || is_between(w, row_codes + 1, last)
+    counts::lines_needed(counts::counts_of(whole))
 }
 
 // Word `word` of a good record may be amended.
@@ -263,7 +170,7 @@ pub fn is_value(whole: &[u8], word: Words) -> bool
     if words::word_at(whole, Words(1)) != DATA {
         return false;
     }
-    among_values(word, counts_of(whole))
+    counts::among_values(word, counts::counts_of(whole))
 }
 
 // The four numbers of a fault.

@@ -12,7 +12,7 @@ use lib.Seq.{length-take-le}
 use Rattle.units.specs.Units.{linesOfFields}
 use Rattle.words.specs.Words.{word, bytesOf, joined, All, Below}
 use Rattle.words.proofs.Laws.{length-bytesOf}
-use Rattle.record.specs.Counts.{countsOf, wordsNeeded, linesNeeded}
+use Rattle.counts.specs.Counts.{countsOf, wordsNeeded, linesNeeded}
 use Rattle.record.specs.Lines.{lineCount}
 use Rattle.record.specs.Rules.{CardsOk, DataOk, KindOk, catalogue, header, dataRecord, RecordOk}
 use Rattle.block.specs.Judging.{Accepted}

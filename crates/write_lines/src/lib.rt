@@ -56,7 +56,7 @@ fn write_data(whole: &[u8], out: &mut [u8], at: Bytes) -> Bytes
     ensures { λ r. ⌜ Put (now (out .entry)) (at .0) (ended (linesOf (wordsOf (now (whole .entry))))) (now (out .exit)) (r .0) ⌝ }
 {
     let lines = count_shown(whole);
-    let counts = record::counts_of(whole);
+    let counts = counts::counts_of(whole);
     write_parts::write_plan(whole, lines, counts, out, at)
 }
 

@@ -14,7 +14,7 @@ use Rattle.words.proofs.Laws.{bytes-words, words-slice}
 use Rattle.field.specs.Writing.{fieldOf}
 use Rattle.field.proofs.Written.{length-fieldOf}
 use Rattle.units.specs.Units.{Line}
-use Rattle.record.specs.declared.Counts.{Counts}
+use Rattle.counts.specs.declared.Counts.{Counts}
 use Rattle.line_plan.specs.Plan.{part, times, tables, plan}
 use Rattle.line_plan.proofs.Plans.{part-turn, fieldsIn, fieldsIn-part, fieldsIn-times}
 use Rattle.write_parts.specs.Laid.{fieldsOf, laid, cardLines, ended}

@@ -1,5 +1,5 @@
 // Words laid out in lines of fields and in cards, written straight into the lent text.
-use record::Counts;
+use counts::Counts;
 use units::Bytes;
 use units::Lines;
 use units::Words;
@@ -9,7 +9,7 @@ ghost use lib.ListN.{length, take, drop};
 ghost use Rattle.units.specs.Units.{wordsOfCards};
 ghost use Rattle.words.specs.Words.{wordsOf};
 ghost use Rattle.words.specs.Writing.{Room, Put};
-ghost use Rattle.record.specs.Counts.{wordsNeeded};
+ghost use Rattle.counts.specs.Counts.{wordsNeeded};
 ghost use Rattle.line_plan.specs.Plan.{part, times, tables, plan};
 ghost use Rattle.write_parts.specs.Laid.{fieldsOf, laid, cardLines, ended};
 

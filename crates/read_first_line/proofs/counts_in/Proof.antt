@@ -1,5 +1,5 @@
 use Rattle.read_first_line.proofs.Heads.{counts-is}
-use Rattle.record.specs.Counts.{countsOf, inRange}
+use Rattle.counts.specs.Counts.{countsOf, inRange}
 use denote.Ref.{now}
 use mathlib.Core.Path.{_≡_, sym, ap, _∙_}
 use borrow.Author.Tests.{lt-ltb, le-ltb}

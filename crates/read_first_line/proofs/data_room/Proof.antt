@@ -1,4 +1,4 @@
-use Rattle.record.proofs.FourCounts.{rows-fit}
+use Rattle.counts.proofs.FourCounts.{rows-fit}
 use Rattle.read_first_line.specs.FirstLine.{dataRoom}
 use native.Mathlib.Omega.{arith}
 use borrow.Author.Tests.{eq-eqb, ne-eqb, lt-ltb, le-ltb}

@@ -1,4 +1,5 @@
-use Rattle.record.specs.Values.{isValue, amongValues}
+use Rattle.record.specs.Values.{isValue}
+use Rattle.counts.specs.Counts.{amongValues}
 use borrow.Author.Tests.{eq-eqb, ne-eqb}
 use mathlib.Core.Path.{ap, _∙_}
 use borrow.Author.Needs.{needs}

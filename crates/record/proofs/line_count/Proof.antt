@@ -1,4 +1,4 @@
-use Rattle.record.specs.Counts.{linesNeeded}
+use Rattle.counts.specs.Counts.{linesNeeded}
 use Rattle.record.specs.Lines.{lineCount}
 use borrow.Author.Tests.{eq-eqb, ne-eqb}
 use mathlib.Core.Path.{ap, _∙_}

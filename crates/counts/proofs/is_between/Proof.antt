@@ -1,6 +1,6 @@
 use borrow.Author.Tests.{le-leb, lt-leb}
-use Rattle.record.proofs.is_between.Statement.{statement}
-use Rattle.record.proofs.is_between.Tie as tie
+use Rattle.counts.proofs.is_between.Statement.{statement}
+use Rattle.counts.proofs.is_between.Tie as tie
 
 returns : tie.Need-returns
 returns c = simp (le-leb _ _ (c .if1 .taken))

@@ -1,10 +1,10 @@
-use Rattle.record.proofs.FourCounts.{rows-fit}
+use Rattle.counts.proofs.FourCounts.{rows-fit}
 use Rattle.units.specs.Units.{linesOfFields}
 use native.Mathlib.Omega.{arith}
 use mathlib.Core.Path.{_≡_, ap, _∙_}
 use borrow.Author.Needs.{needs}
-use Rattle.record.proofs.lines_needed.Statement.{statement}
-use Rattle.record.proofs.lines_needed.Tie as tie
+use Rattle.counts.proofs.lines_needed.Statement.{statement}
+use Rattle.counts.proofs.lines_needed.Tie as tie
 
 -- the lines of each part
 prologue-is : (c : tie.After-lines-of-fields) → c .lines-of-fields .result .0 ≡ linesOfFields (c .before .before .args .c .lprol)

@@ -1,9 +1,9 @@
-use Rattle.record.specs.Counts.{underLeast, inRange}
+use Rattle.counts.specs.Counts.{underLeast, inRange}
 use mathlib.Core.Bool.{false}
 use mathlib.Core.Path.{_≡_, sym, _∙_}
 use borrow.Author.Needs.{needs}
-use Rattle.record.proofs.in_range.Statement.{statement}
-use Rattle.record.proofs.in_range.Tie as tie
+use Rattle.counts.proofs.in_range.Statement.{statement}
+use Rattle.counts.proofs.in_range.Tie as tie
 
 -- a count that was passed is not under its least value
 lprol-in : (c : tie.Else1) → underLeast 16 (c .before .before .args .c .lprol) ≡ false

@@ -1,6 +1,6 @@
 use borrow.Author.Needs.{needs}
-use Rattle.record.proofs.counts_of.Statement.{statement}
-use Rattle.record.proofs.counts_of.Tie as tie
+use Rattle.counts.proofs.counts_of.Statement.{statement}
+use Rattle.counts.proofs.counts_of.Tie as tie
 
 returns : tie.Need-returns
 returns c = rw (c .before .before .before .word-at .ensures, c .before .before .word-at2 .ensures, c .before .word-at3 .ensures, c .word-at4 .ensures)

@@ -6,7 +6,8 @@ use lib.Dec.{ltb, leb}
 use Rattle.units.specs.Choice.{if_then_else_}
 use Rattle.units.specs.Units.{linesOfFields}
 use Rattle.words.specs.Words.{word}
-use Rattle.record.specs.declared.Counts.{Counts}
+use Rattle.words.specs.Scans.{within}
+use Rattle.counts.specs.declared.Counts.{Counts}
 
 -- "words 13 to 16 are LPROL, JPAR, MPAR, NROW"
 abbrev pub countsOf : List ℕ → Counts
@@ -32,3 +33,10 @@ inRange c =
     else if underLeast 0 (c .mpar) then 2
     else if underLeast 0 (c .nrow) then 3
     else 4
+
+-- "JPAR codes follow the prologue, then JPAR values, MPAR codes, and NROW rows of MPAR values": word w is one of the values
+abbrev pub amongValues : Counts → ℕ → Bool
+amongValues c w =
+    let codes = c .lprol + c .jpar in
+    let values = codes + c .jpar in
+    within (codes + 1) values w || within (values + c .mpar + 1) (wordsNeeded c) w

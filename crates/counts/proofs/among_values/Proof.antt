@@ -1,11 +1,11 @@
 use Rattle.words.specs.Scans.{within}
-use Rattle.record.specs.Counts.{wordsNeeded}
+use Rattle.counts.specs.Counts.{wordsNeeded}
 use Prim.Native.Nat.{ℕ, _+_}
 use mathlib.Core.Bool.{Bool, _||_}
 use mathlib.Core.Path.{sym, ap, _∙_}
 use borrow.Author.Needs.{needs}
-use Rattle.record.proofs.among_values.Statement.{statement}
-use Rattle.record.proofs.among_values.Tie as tie
+use Rattle.counts.proofs.among_values.Statement.{statement}
+use Rattle.counts.proofs.among_values.Tie as tie
 
 -- among the rows
 abbrev in-rows : tie.After-words-needed → ℕ → Bool

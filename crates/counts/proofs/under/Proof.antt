@@ -1,7 +1,7 @@
-use Rattle.record.specs.Counts.{underLeast}
+use Rattle.counts.specs.Counts.{underLeast}
 use borrow.Author.Tests.{lt-ltb, le-ltb}
-use Rattle.record.proofs.under.Statement.{statement}
-use Rattle.record.proofs.under.Tie as tie
+use Rattle.counts.proofs.under.Statement.{statement}
+use Rattle.counts.proofs.under.Tie as tie
 
 returns : tie.Need-returns
 unfolding underLeast

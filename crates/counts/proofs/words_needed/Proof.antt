@@ -1,8 +1,8 @@
-use Rattle.record.proofs.FourCounts.{rows-fit}
+use Rattle.counts.proofs.FourCounts.{rows-fit}
 use native.Mathlib.Omega.{arith}
 use borrow.Author.Needs.{needs}
-use Rattle.record.proofs.words_needed.Statement.{statement}
-use Rattle.record.proofs.words_needed.Tie as tie
+use Rattle.counts.proofs.words_needed.Statement.{statement}
+use Rattle.counts.proofs.words_needed.Tie as tie
 
 mul-rows : tie.Need-mul-rows
 mul-rows c = let a = c .before .before .args .c in omega (arith, rows-fit (a .mpar) (a .nrow) (omega arith) (omega arith))

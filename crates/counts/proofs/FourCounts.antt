@@ -11,9 +11,9 @@ use lib.ListN.{length, getD, take, set}
 use lib.Seq.{getD-take, getD-set-other, take-take, take-append-le}
 use Rattle.units.specs.Choice.{if_then_else_}
 use Rattle.units.proofs.Verdicts.{or-off}
-use Rattle.record.specs.declared.Counts.{Counts}
-use Rattle.record.specs.Counts.{countsOf, underLeast, inRange}
-use Rattle.record.specs.Rules.{Least, CountsOk}
+use Rattle.counts.specs.declared.Counts.{Counts}
+use Rattle.counts.specs.Counts.{countsOf, underLeast, inRange}
+use Rattle.counts.specs.Rules.{Least, CountsOk}
 
 -- words with the same ones at the places of the counts have the same counts
 pub counts-same : (r s : List ℕ) → ((i : ℕ) → 12 ≤ i → i < 16 → getD r i 0 ≡ getD s i 0) → countsOf r ≡ countsOf s
