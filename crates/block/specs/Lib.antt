@@ -1,5 +1,4 @@
 pub mod Judging
 pub mod Records
 pub mod Cases
-pub mod Steps
 pub mod Rules

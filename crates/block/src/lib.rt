@@ -1,4 +1,4 @@
-// A block: records end to end, with length word and checksum; the judge, one step to the next record, and finding one.
+// A block: records end to end, with length word and checksum; the judge.
 use record::Checked;
 use record::Fault;
 use units::Answer;
@@ -8,10 +8,9 @@ ghost use mathlib.Core.Path.{_≡_};
 ghost use Prim.Native.Nat.{_<_, _≤_};
 ghost use lib.ListN.{length};
 ghost use Rattle.units.specs.Answers.{answered};
-ghost use Rattle.words.specs.Words.{wordsOf, bytesOf, mostWords};
+ghost use Rattle.words.specs.Words.{wordsOf, mostWords};
 ghost use Rattle.block.specs.Judging.{wrongSize, walk, judgeWords, judged};
 ghost use Rattle.block.specs.Cases.{refusalOf, judgedOf};
-ghost use Rattle.block.specs.Steps.{stepOf, recordAt, findOf};
 
 // Why a block is refused: its frame, or one of its records.
 pub enum Refusal {
@@ -25,12 +24,6 @@ pub enum Refusal {
 pub enum Judged {
     Records(u16),
     Refused(Refusal),
-}
-
-// The next record, by the words of the block before it and its own; or no more.
-pub enum Place {
-    Record(Words, Words),
-    NoMore,
 }
 
 // A byte count that is odd, under 36 or over 16,000.
@@ -121,58 +114,4 @@ pub fn refusal_numbers(r: Refusal) -> Answer
         Refusal::Checksum(bits) => units::row(3, 0, 0, bits),
         Refusal::Record(f) => record::numbers(f),
     }
-}
-
-// The record with `at` words of the block before it, or no more where none stands there.
-pub fn step(block: &[u8], at: Words) -> Place
-    ensures { λ r. ⌜ r ≡ stepOf (wordsOf (now (block .entry))) (at .0) ⌝ }
-{
-    let place = at.0;
-    let m = words::count(block).0;
-    if m <= place {
-        return Place::NoMore;
-    }
-    let size = units::words_said(words::word_at(block, at));
-    let k = size.0;
-    if k == 0 {
-        return Place::NoMore;
-    }
-    if m - 1 - place < k {
-        return Place::NoMore;
-    }
-    Place::Record(at, size)
-}
-
-// The record with `at` words of the block before it, lent as a part of the block; an empty part where none stands there.
-pub fn record_at(block: &[u8], at: Words) -> &[u8]
-    ensures { λ r. ⌜ now r ≡ bytesOf (recordAt (wordsOf (now (block .entry))) (at .0)) ⌝ }
-{
-    let Place::Record(place, size) = step(block, at) else {
-        return &block[..0];
-    };
-    let end = place.0 + size.0;
-    words::span(block, place, Words(end))
-}
-
-// Record `number` of the block, or no more where the block has fewer.
-pub fn find(block: &[u8], number: u16) -> Place
-    ensures { λ r. ⌜ r ≡ findOf (wordsOf (now (block .entry))) 1 number ⌝ }
-{
-    if number == 0 {
-        return Place::NoMore;
-    }
-    let mut at = 1;
-    let mut i: u16 = number;
-    while 1 < i {
-        match step(block, Words(at)) {
-            Place::NoMore => return Place::NoMore,
-            Place::Record(place, size) => {
-                let p = place.0;
-                let k = size.0;
-                at = p + k;
-                i -= 1;
-            }
-        }
-    }
-    step(block, Words(at))
 }

@@ -17,12 +17,12 @@ use Rattle.words.proofs.Laws.{words-slice}
 use Rattle.record.specs.Rules.{RecordOk}
 use Rattle.record.specs.Values.{isValue}
 use Rattle.record.proofs.Values.{ValueAt, value-at}
-use Rattle.block.specs.Steps.{placeOf, findOf, placed}
+use Rattle.block_steps.specs.Steps.{placeOf, findOf, placed}
 use Rattle.block.specs.Judging.{Accepted}
 use Rattle.block.specs.Records.{recordsOf}
-use Rattle.block.specs.declared.Place.{Place}
-use Rattle.block.specs.declared.Place.the-variants.{Record, NoMore}
-use Rattle.block.proofs.Placed.{others-left, first-left, find-record}
+use Rattle.block_steps.specs.declared.Place.{Place}
+use Rattle.block_steps.specs.declared.Place.the-variants.{Record, NoMore}
+use Rattle.block_steps.proofs.Placed.{others-left, first-left, find-record}
 use Rattle.sheet.specs.Sheets.{Entry}
 use Rattle.block_value.specs.Places.{recordNumber, wordNumber, recordIn, noRecord}
 use Rattle.block_value.specs.Exchange.{valueIn, valuePlace}

@@ -1,5 +1,5 @@
 // A value of a block: where it stands, and another put in its place, the checksum patched.
-use block::Place;
+use block_steps::Place;
 use sheet::Amendment;
 use units::Answer;
 use units::Words;
@@ -50,7 +50,7 @@ fn find_value(block: &[u8], e: Amendment, value: u16) -> Spot
     requires { ⌜ Below 256 (now block) × Accepted (now block) ⌝ }
     ensures { λ r. ⌜ spotOf r ≡ valuePlace (recordsOf (now (block .entry))) (entryOf e) value ⌝ }
 {
-    match block::find(block, e.number) {
+    match block_steps::find(block, e.number) {
         Place::NoMore => Spot::Refused(Obstacle::NoSuchRecord),
         Place::Record(at, size) => {
             let start = at.0;

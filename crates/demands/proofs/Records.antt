@@ -1,5 +1,5 @@
 -- Steps and searches find the records.
-use Rattle.block.proofs.Placed.{step-record, step-no-more, find-record}
+use Rattle.block_steps.proofs.Placed.{step-record, step-no-more, find-record}
 use Rattle.demands.specs.Records.{StepFinds, StepEnds, FindFinds}
 
 pub step-finds : StepFinds

@@ -7,8 +7,8 @@ use Rattle.units.specs.Answers.{answered, packedOf}
 use Rattle.block.specs.declared.Judged.{Judged}
 use Rattle.block.specs.Cases.{judgedOf}
 use Rattle.block.specs.Judging.{judged}
-use Rattle.block.specs.declared.Place.{Place}
-use Rattle.block.specs.Steps.{stepOf, findOf}
+use Rattle.block_steps.specs.declared.Place.{Place}
+use Rattle.block_steps.specs.Steps.{stepOf, findOf}
 use Rattle.words.specs.Words.{wordsOf}
 use Rattle.words.specs.Outcomes.{Written, leaves}
 use Rattle.words.specs.Writing.{Put}
@@ -35,7 +35,7 @@ JudgeAgrees = (block : List ℕ) (r s : Judged) → judgedOf r ≡ judged block 
 abbrev pub CedarJudgeAgrees : Type 0
 CedarJudgeAgrees = (block : List ℕ) (r s : ℕ) → r ≡ packedOf (judgeAnswer block) → s ≡ packedOf (judgeAnswer block) → r ≡ s
 
--- `block::step` and `block::find`
+-- `block_steps::step` and `block_steps::find`
 abbrev pub StepAgrees : Type 0
 StepAgrees = (block : List ℕ) (at : ℕ) (r s : Place) → r ≡ stepOf (wordsOf block) at → s ≡ stepOf (wordsOf block) at → r ≡ s
 

@@ -4,10 +4,10 @@ use mathlib.Core.List.{List, _∷_, _++_}
 use Prim.Native.Nat.{ℕ, _+_}
 use lib.ListN.{length}
 use Rattle.words.specs.Words.{wordsOf, joined, Below}
-use Rattle.block.specs.declared.Place.the-variants.{NoMore}
+use Rattle.block_steps.specs.declared.Place.the-variants.{NoMore}
 use Rattle.block.specs.Judging.{Accepted}
 use Rattle.block.specs.Records.{recordsOf}
-use Rattle.block.specs.Steps.{placeOf, stepOf, findOf, placed}
+use Rattle.block_steps.specs.Steps.{placeOf, stepOf, findOf, placed}
 
 -- behind word 1 and the records before it, a step finds each record, with its size
 abbrev pub StepFinds : Type 0

@@ -71,7 +71,7 @@ fn write_listing(block: &[u8], out: &mut [u8]) -> Bytes
     let mut number: u32 = 1;
     let mut to = Bytes(0);
     loop {
-        let whole = block::record_at(block, Words(at));
+        let whole = block_steps::record_at(block, Words(at));
         let n = words::count(whole).0;
         if n == 0 {
             return to;

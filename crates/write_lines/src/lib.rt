@@ -118,7 +118,7 @@ fn text_size(block: &[u8]) -> Bytes
     let mut at = 1;
     let mut bytes = 0;
     loop {
-        let whole = block::record_at(block, Words(at));
+        let whole = block_steps::record_at(block, Words(at));
         let n = words::count(whole).0;
         if n == 0 {
             return Bytes(bytes);
@@ -136,7 +136,7 @@ pub fn write_records(block: &[u8], out: &mut [u8]) -> Bytes
     let mut at = 1;
     let mut to = Bytes(0);
     loop {
-        let whole = block::record_at(block, Words(at));
+        let whole = block_steps::record_at(block, Words(at));
         let n = words::count(whole).0;
         if n == 0 {
             return to;

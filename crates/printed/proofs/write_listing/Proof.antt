@@ -8,7 +8,7 @@ use Rattle.words.specs.Words.{wordsOf}
 use Rattle.words.proofs.Laws.{all-below}
 use Rattle.words.proofs.Writing.{Going, start, fits, on, done}
 use Rattle.block.specs.Records.{recordsOf}
-use Rattle.block.proofs.Loops.{Loop, Turn, loop-start, turn, loop-on, loop-end}
+use Rattle.block_steps.proofs.Loops.{Loop, Turn, loop-start, turn, loop-on, loop-end}
 use Rattle.printed.specs.Listing.{rowOf, rowsOf}
 use Rattle.printed.proofs.Rows.{rows-on}
 use Rattle.printed.proofs.write_listing.Statement.{statement}

@@ -7,7 +7,7 @@ use Rattle.words.specs.Words.{wordsOf}
 use Rattle.words.proofs.Laws.{all-below}
 use Rattle.words.proofs.Writing.{Going, start, fits, on, done}
 use Rattle.block.specs.Records.{recordsOf}
-use Rattle.block.proofs.Loops.{Loop, Turn, loop-start, turn, loop-on, loop-end}
+use Rattle.block_steps.proofs.Loops.{Loop, Turn, loop-start, turn, loop-on, loop-end}
 use Rattle.write_parts.specs.Laid.{ended}
 use Rattle.write_lines.specs.Lines.{linesOf}
 use Rattle.write_lines.specs.Text.{textOf}

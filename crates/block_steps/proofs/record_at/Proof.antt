@@ -5,11 +5,11 @@ use borrow.Author.Needs.{needs}
 use denote.Ref.{now}
 use Rattle.words.specs.Words.{wordsOf, bytesOf}
 use Rattle.words.proofs.Laws.{length-wordsOf, bytes-slice, all-below}
-use Rattle.block.specs.declared.Place.the-variants.{Record}
-use Rattle.block.specs.Steps.{stepOf, wordsAt}
-use Rattle.block.proofs.Steps.{FoundBefore, step-found}
-use Rattle.block.proofs.record_at.Statement.{statement}
-use Rattle.block.proofs.record_at.Tie as tie
+use Rattle.block_steps.specs.declared.Place.the-variants.{Record}
+use Rattle.block_steps.specs.Steps.{stepOf, wordsAt}
+use Rattle.block_steps.proofs.Steps.{FoundBefore, step-found}
+use Rattle.block_steps.proofs.record_at.Statement.{statement}
+use Rattle.block_steps.proofs.record_at.Tie as tie
 
 -- the record that the step has found
 stands : (c : tie.After-place) → let s = c .before .before .before .before in let p = c .place .given .0 in

@@ -14,11 +14,11 @@ use Rattle.units.specs.Answers.{passed}
 use Rattle.words.specs.Words.{wordsOf, word, joined, framed, All, Below, mostWords}
 use Rattle.words.proofs.Lists.{part-slice}
 use Rattle.record.specs.Rules.{RecordOk}
-use Rattle.block.specs.declared.Place.the-variants.{NoMore}
+use Rattle.block_steps.specs.declared.Place.the-variants.{NoMore}
 use Rattle.block.specs.Judging.{judged}
 use Rattle.block.specs.Records.{recordsOf}
-use Rattle.block.specs.Steps.{placeOf, stepOf, past, findOf, placed}
+use Rattle.block_steps.specs.Steps.{placeOf, stepOf, past, findOf, placed}
 use Rattle.block.proofs.Exact.{ok-long, frame-ok, only-good, words-are}
 
 -- the word at a place is the first of the record that stands there
 first-word : (ws : List ℕ) (at : ℕ) (r rest : List ℕ) → drop at ws ≡ r ++ rest → 0 < length r → getD ws at 0 ≡ word r 1

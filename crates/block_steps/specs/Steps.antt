@@ -6,8 +6,8 @@ use lib.Dec.{ltb, eqb}
 use lib.ListN.{length, getD}
 use lib.Seq.{slice}
 use Rattle.units.specs.Choice.{if_then_else_}
-use Rattle.block.specs.declared.Place.{Place}
-use Rattle.block.specs.declared.Place.the-variants.{Record, NoMore}
+use Rattle.block_steps.specs.declared.Place.{Place}
+use Rattle.block_steps.specs.declared.Place.the-variants.{Record, NoMore}
 
 -- a record with `at` words before it and `size` of its own
 abbrev pub placeOf : ℕ → ℕ → Place

@@ -6,11 +6,11 @@ use borrow.Author.Needs.{needs}
 use denote.Ref.{now}
 use Rattle.words.specs.Words.{wordsOf}
 use Rattle.words.proofs.Laws.{length-wordsOf}
-use Rattle.block.specs.declared.Place.the-variants.{Record}
-use Rattle.block.specs.Steps.{stepOf, findOf}
-use Rattle.block.proofs.Steps.{step-found, find-none, find-first, find-on}
-use Rattle.block.proofs.find.Statement.{statement}
-use Rattle.block.proofs.find.Tie as tie
+use Rattle.block_steps.specs.declared.Place.the-variants.{Record}
+use Rattle.block_steps.specs.Steps.{stepOf, findOf}
+use Rattle.block_steps.proofs.Steps.{step-found, find-none, find-first, find-on}
+use Rattle.block_steps.proofs.find.Statement.{statement}
+use Rattle.block_steps.proofs.find.Tie as tie
 
 -- what is found from here on is what is to be found
 record Finding (block : List ℕ) (number at i : ℕ) : Type 0 where

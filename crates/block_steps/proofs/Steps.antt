@@ -11,9 +11,9 @@ use lib.ListN.{length, getD, List·getD-eq-default}
 use Rattle.units.specs.Choice.{if_then_else_}
 use Rattle.units.proofs.Verdicts.{or-off}
 use Rattle.units.specs.declared.Words.{Words}
-use Rattle.block.specs.declared.Place.{Place}
-use Rattle.block.specs.declared.Place.the-variants.{Record, NoMore}
-use Rattle.block.specs.Steps.{placeOf, stepOf, past, findOf}
+use Rattle.block_steps.specs.declared.Place.{Place}
+use Rattle.block_steps.specs.declared.Place.the-variants.{Record, NoMore}
+use Rattle.block_steps.specs.Steps.{placeOf, stepOf, past, findOf}
 
 -- behind the last word stands nothing
 pub step-beyond : (ws : List ℕ) (at : ℕ) → length ws ≤ at → stepOf ws at ≡ NoMore

@@ -1,5 +1,5 @@
-use Rattle.block.proofs.Steps.{step-beyond}
-use Rattle.block.specs.Steps.{stepOf}
+use Rattle.block_steps.proofs.Steps.{step-beyond}
+use Rattle.block_steps.specs.Steps.{stepOf}
 use Rattle.words.specs.Words.{wordsOf}
 use denote.Ref.{now}
 use lib.ListN.{getD}
@@ -7,8 +7,8 @@ use native.Mathlib.Omega.{arith}
 use mathlib.Core.Path.{_≡_, sym, _∙_}
 use borrow.Author.Tests.{lt-ltb, le-ltb, eq-eqb, ne-eqb}
 use borrow.Author.Needs.{needs}
-use Rattle.block.proofs.step.Statement.{statement}
-use Rattle.block.proofs.step.Tie as tie
+use Rattle.block_steps.proofs.step.Statement.{statement}
+use Rattle.block_steps.proofs.step.Tie as tie
 
 -- LTOT is what the code has read
 size-is : (c : tie.After-words-said) → getD (wordsOf (now (c .before .before .before .before .before .args .block))) (c .before .before .before .before .before .args .at .0) 0 ≡ c .words-said .result .0

@@ -6,11 +6,11 @@ use native.Mathlib.Omega.{arith}
 use lib.ListN.{length}
 use Rattle.words.specs.Words.{wordsOf, bytesOf, Below}
 use Rattle.words.proofs.Laws.{words-bytes}
 use Rattle.block.specs.Rules.{BlockRecord}
 use Rattle.block.specs.Judging.{Accepted}
 use Rattle.block.specs.Records.{recordsOf}
-use Rattle.block.specs.Steps.{wordsAt, recordAt}
-use Rattle.block.proofs.Placed.{LeftFrom, first-left, none-left, all-left}
+use Rattle.block_steps.specs.Steps.{wordsAt, recordAt}
+use Rattle.block_steps.proofs.Placed.{LeftFrom, first-left, none-left, all-left}
 
 -- the loop has come to a place: the records that are left there, and what holds of them
 pub record Loop (b : List ℕ) (at : ℕ) (P : List (List ℕ) → Type 0) : Type 0 where
