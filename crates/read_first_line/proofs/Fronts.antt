@@ -1,5 +1,5 @@
 -- What is known of a Data record's first fields once they are accepted.
-use mathlib.Core.Path.{_≡_, refl, sym}
+use mathlib.Core.Path.{_≡_, refl, sym, _∙_}
 use mathlib.Core.Bool.{Bool, true, false}
 use mathlib.Core.List.{List, _++_}
 use Prim.Native.Nat.{ℕ, _+_, _-_, _*_, _≤_, _<_, min}
@@ -8,7 +8,6 @@ use borrow.Author.Tests.{ltb-true, ltb-false}
 use lib.Dec.{ltb, eqb}
 use lib.ListN.{length, getD, take, length-take, List·getD-append, List·getD-eq-default}
 use lib.Seq.{getD-take}
-use Rattle.units.specs.Choice.{if_then_else_}
 use Rattle.units.specs.Answers.{answer, Verdict, passed, refused, onward}
 use Rattle.units.proofs.Verdicts.{never-passed, else-passed}
 use Rattle.units.proofs.Choosing.{both-ways}
@@ -35,42 +34,72 @@ least-take m row h = let l = long-enough (take m row) h in omega (arith, getD-ta
 
 -- ---- by the fields
 
-in-range : (num : ℕ) (r x : List ℕ) → countsIn num r ≡ passed x → LprolLeast x
+in-range : (num : ℕ) (r x : List ℕ) → countsIn num r ≡ passed x → (r ≡ x) × LprolLeast r
 unfolding countsIn
 in-range num r x e =
     let a = else-passed (ltb (inRange (countsOf r)) 4) (answer 27 num (columnOf (12 + inRange (countsOf r))) 0) (passed r) x e in
-    let same : r ≡ x = cc in
-    rw (sym same) (range-ok (countsOf r) (ltb-false _ _ (a .0)) .lprol .least-is)
+    (cc, range-ok (countsOf r) (ltb-false _ _ (a .0)) .lprol .least-is)
 
-pub lprol-counted : (num : ℕ) (l first x : List ℕ) → passed x ≡ countFields num l first → LprolLeast x
-unfolding countFields
-lprol-counted num l first x e = by (fieldNumbers num l 12 4) e
-  where
-    by : (v : Verdict (List ℕ)) → passed x ≡ onward v (λ more. countsIn num (first ++ more)) → LprolLeast x
-    by (passed ws) g = in-range num (first ++ ws) x (sym g)
-    by (refused r) g = absurd (never-passed (sym g))
+module _ (num : ℕ) (l first x : List ℕ) (e : passed x ≡ countFields num l first) where
+  -- the counts stand behind the first fields
+  counted-by : (P : List ℕ → Type 0) → ((more : List ℕ) → LprolLeast (first ++ more) → P (first ++ more)) → P x
+  unfolding countFields
+  counted-by P h = by (fieldNumbers num l 12 4) e
+    where
+      by : (v : Verdict (List ℕ)) → passed x ≡ onward v (λ more. countsIn num (first ++ more)) → P x
+      by (passed more) g = let a = in-range num (first ++ more) x (sym g) in rw (sym (a .0)) (h more (a .1))
+      by (refused r) g = absurd (never-passed (sym g))
+
+  pub lprol-counted : LprolLeast x
+  lprol-counted = counted-by LprolLeast (λ more h. h)
+
+  kind-counted : 1 < length first → getD x 1 0 ≡ getD first 1 0
+  kind-counted long = counted-by (λ x. getD x 1 0 ≡ getD first 1 0) (λ more _. List·getD-append first more 0 1 long)
 
 -- a verdict that gives a Data record gives LPROL in range
 abbrev GivesLprol : Verdict Head → Type 0
 GivesLprol v = (ws : List ℕ) → passed (counts ws) ≡ v → LprolLeast ws
 
 module _ (num : ℕ) (l : List ℕ) where
-  prologue-least : (r : List ℕ) → LprolLeast r → GivesLprol (prologueFields num l r)
+  -- more fields stand behind the counts
+  prologue-by : (P : List ℕ → Type 0) (r ws : List ℕ) → ((more : List ℕ) → P (r ++ more)) → passed (counts ws) ≡ prologueFields num l r → P ws
   unfolding prologueFields
-  prologue-least r h ws e = by (fieldNumbers num l 16 (min (word r 13) 20 - 16)) (blankAfter num l (6 * min (word r 13) 20)) e
+  prologue-by P r ws h e = by (fieldNumbers num l 16 (min (word r 13) 20 - 16)) (blankAfter num l (6 * min (word r 13) 20)) e
     where
-      by : (v : Verdict (List ℕ)) (u : Verdict (Unit {0})) → passed (counts ws) ≡ onward v (λ more. onward u (λ _. passed (counts (r ++ more)))) → LprolLeast ws
-      by (passed more) (passed y) g = let same : ws ≡ r ++ more = cc in rw (same, List·getD-append r more 0 12 (long-enough r h)) h
+      by : (v : Verdict (List ℕ)) (u : Verdict (Unit {0})) → passed (counts ws) ≡ onward v (λ more. onward u (λ _. passed (counts (r ++ more)))) → P ws
+      by (passed more) (passed y) g = let same : ws ≡ r ++ more = cc in rw same (h more)
       by (passed more) (refused a) g = absurd (never-passed (sym g))
       by (refused a) u g = absurd (never-passed (sym g))
 
-  data-least : (first : List ℕ) → GivesLprol (dataFields num l first)
+  -- what holds of the counts and of all that begins with them holds of what a Data record's fields give
+  data-by : (P : List ℕ → Type 0) (first ws : List ℕ) → ((r more : List ℕ) → passed r ≡ countFields num l first → P (r ++ more)) → passed (counts ws) ≡ dataFields num l first → P ws
   unfolding dataFields
-  data-least first ws e = by (countFields num l first) refl e
+  data-by P first ws h e = by (countFields num l first) refl e
     where
-      by : (v : Verdict (List ℕ)) → countFields num l first ≡ v → passed (counts ws) ≡ onward v (λ r. prologueFields num l r) → LprolLeast ws
-      by (passed r) f g = prologue-least r (lprol-counted num l first r (sym f)) ws g
+      by : (v : Verdict (List ℕ)) → v ≡ countFields num l first → passed (counts ws) ≡ onward v (λ r. prologueFields num l r) → P ws
+      by (passed r) f g = prologue-by P r ws (λ more. h r more f) g
       by (refused a) f g = absurd (never-passed (sym g))
+
+  data-least : (first : List ℕ) → GivesLprol (dataFields num l first)
+  data-least first ws =
+      data-by LprolLeast first ws (λ r more f. let h = lprol-counted num l first r f in rw (List·getD-append r more 0 12 (long-enough r h)) h)
+
+  -- field 2 stands where it stood
+  pub data-kept : (first : List ℕ) (n : ℕ) (row : List ℕ) → 1 < length first → passed (counts (take n row)) ≡ dataFields num l first → getD row 1 0 ≡ getD first 1 0
+  data-kept first n row long e =
+      let h = long-enough (take n row) (data-least first (take n row) e) in
+      let same : getD (take n row) 1 0 ≡ getD first 1 0 = data-by (λ ws. getD ws 1 0 ≡ getD first 1 0) first (take n row)
+      (λ r more f. let k = long-enough r (lprol-counted num l first r f) in List·getD-append r more 0 1 (omega arith) ∙ kind-counted num l first r f long) e in
+      sym (getD-take n row 1 0 (omega (arith, length-take n row))) ∙ same
+
+  pub header-kept : (first ws : List ℕ) → 1 < length first → passed (cards 3002 ws) ≡ headerFields num l first → getD ws 1 0 ≡ getD first 1 0
+  unfolding headerFields
+  header-kept first ws long e = by (fieldNumbers num l 12 3) (zeroFields num l 15 5) e
+    where
+      by : (v : Verdict (List ℕ)) (u : Verdict (Unit {0})) → passed (cards 3002 ws) ≡ onward v (λ more. onward u (λ _. passed (cards 3002 (first ++ more)))) → getD ws 1 0 ≡ getD first 1 0
+      by (passed more) (passed y) g = let same : ws ≡ first ++ more = cc in rw same (List·getD-append first more 0 1 long)
+      by (passed more) (refused a) g = absurd (never-passed (sym g))
+      by (refused a) u g = absurd (never-passed (sym g))
 
   -- the others give none
   no-counts : {A : Type 0} (kind : ℕ) (x : A → List ℕ) (v : Verdict A) → GivesLprol (onward v (λ y. passed (cards kind (x y))))

@@ -2,15 +2,15 @@
 use mathlib.Core.Path.{_≡_, sym, ap, _∙_}
 use mathlib.Core.Bool.{_||_}
 use mathlib.Core.List.{List, [], _∷_, _++_, map}
-use Prim.Native.Nat.{ℕ, suc, _+_, _-_, _*_, _≤_, _<_, min}
+use Prim.Native.Nat.{ℕ, suc, _+_, _-_, _*_, _≤_, _<_}
 use native.Mathlib.Omega.{arith}
 use borrow.Author.Tests.{ltb-false}
-use lib.Dec.{ltb, eqb}
-use lib.ListN.{length, getD, take, drop, replicate, length-append, length-replicate, List·getD-append}
+use lib.Dec.{ltb}
+use lib.ListN.{length, getD, take, drop, replicate, length-append, length-replicate}
 use lib.Seq.{sets, slice, getD-take, length-take-le, length-slice}
 use Rattle.units.specs.Choice.{if_then_else_}
-use Rattle.units.specs.Answers.{answer, Verdict, passed, refused, onward}
-use Rattle.units.proofs.Verdicts.{never-passed, else-passed, or-off}
+use Rattle.units.specs.Answers.{answer, passed, refused}
+use Rattle.units.proofs.Verdicts.{else-passed, or-off}
 use Rattle.counts.specs.declared.Counts.{Counts}
 use Rattle.words.specs.Words.{bytesOf, mostRecordWords}
 use Rattle.words.proofs.Laws.{bytes-append, length-bytesOf}
@@ -18,8 +18,8 @@ use Rattle.words.proofs.Writing.{sets-append}
 use Rattle.counts.specs.Counts.{countsOf, wordsNeeded, inRange}
 use Rattle.counts.proofs.FourCounts.{counts-first, counts-take}
 use Rattle.line_plan.specs.Plan.{plan}
-use Rattle.read_columns.specs.Columns.{columnOf, fieldNumbers, blankAfter}
-use Rattle.read_first_line.specs.FirstLine.{card, fields, gives, Head, counts, countsIn, catalogueFields, headerFields, prologueFields, dataFields, kindFields, cardsRoom, dataRoom, cardsGiven, dataGiven}
+use Rattle.read_columns.specs.Columns.{columnOf}
+use Rattle.read_first_line.specs.FirstLine.{card, fields, gives, countsIn, cardsRoom, dataRoom, cardsGiven, dataGiven}
 use Rattle.read_first_line.specs.State.{put, CardLines}
 
 -- words that are put one after the other
@@ -72,38 +72,3 @@ unfolding cardsRoom
 cards-most num held lines e =
     let o = or-off (ltb lines 1) _ (else-passed (ltb lines 1 || ltb 199 lines) (answer 24 num 1 0) _ tt (sym e) .0) in
     record { one = ltb-false lines 1 (o .0); most = ltb-false 199 lines (o .1) }
-
--- the fields behind the counts, read into the row: LPROL stands where it stood
-pub prologue-on : (num : ℕ) (l row row′ : List ℕ) (v : Verdict Head) → let used = min (getD row 12 0) 20 in 16 ≤ getD row 12 0 → 16 ≤ length row
-    → passed (take (16 + (used - 16)) row′) ≡ onward (fieldNumbers num l 16 (used - 16)) (λ ws. passed (take 16 row ++ ws))
-    → v ≡ onward (blankAfter num l (6 * min (getD row′ 12 0) 20)) (λ _. passed (counts (take (min (getD row′ 12 0) 20) row′)))
-    → v ≡ prologueFields num l (take 16 row)
-unfolding prologueFields
-prologue-on num l row row′ v low long read said =
-    let lprol = getD row 12 0 in
-    let used = min lprol 20 in
-    let e : 16 + (used - 16) ≡ used = omega arith in
-    rw (getD-take 16 row 12 0 (omega arith)) (by (fieldNumbers num l 16 (used - 16)) (rw e at read))
-  where
-    by : (w : Verdict (List ℕ)) → passed (take (min (getD row 12 0) 20) row′) ≡ onward w (λ ws. passed (take 16 row ++ ws))
-        → v ≡ onward w (λ more. onward (blankAfter num l (6 * min (getD row 12 0) 20)) (λ _. passed (counts (take 16 row ++ more))))
-    by (passed more) g =
-        let same : take (min (getD row 12 0) 20) row′ ≡ take 16 row ++ more = cc in
-        let stays : getD row′ 12 0 ≡ getD row 12 0 =
-        sym (getD-take (min (getD row 12 0) 20) row′ 12 0 (omega arith)) ∙ ap (λ l. getD l 12 0) same ∙ List·getD-append (take 16 row) more 0 12 (omega (arith, length-take-le 16 row long)) ∙ getD-take 16 row 12 0 (omega arith) in
-        said ∙ rw (stays, same)
-    by (refused a) g = absurd (never-passed (sym g))
-
-pub prologue-is : (num : ℕ) (l row : List ℕ) → let used = min (getD row 12 0) 20 in
-    prologueFields num l (take 16 row) ≡ onward (fieldNumbers num l 16 (used - 16)) (λ more. onward (blankAfter num l (6 * used)) (λ _. passed (counts (take 16 row ++ more))))
-unfolding prologueFields
-prologue-is num l row = rw (getD-take 16 row 12 0 (omega arith))
-
-pub kind-is : (num : ℕ) (l row : List ℕ) →
-    kindFields num l (take 12 row) ≡
-    (if eqb (getD row 1 0) 2101 then catalogueFields num l (take 12 row)
-    else if eqb (getD row 1 0) 3101 then headerFields num l (take 12 row)
-    else if eqb (getD row 1 0) 1101 then dataFields num l (take 12 row)
-    else refused (answer 23 num 7 0))
-unfolding kindFields
-kind-is num l row = rw (getD-take 12 row 1 0 (omega arith))

@@ -3,3 +3,4 @@ pub mod ToCome
 pub mod Heads
 pub mod Fronts
 pub mod Puts
+pub mod Fields

@@ -1,10 +1,8 @@
 -- Reading step by step: what one test after the other makes of a line.
-use mathlib.Core.Path.{_≡_, sym, ap, _∙_}
+use mathlib.Core.Path.{_≡_, refl, sym, ap, _∙_}
 use mathlib.Core.List.{List, _++_}
 use Prim.Native.Nat.{ℕ}
-use Rattle.units.specs.declared.Answer.{Answer}
 use Rattle.units.specs.Answers.{Verdict, passed, refused, onward}
-use Rattle.units.proofs.Verdicts.{never-passed}
 use Rattle.read_columns.specs.declared.Flaw.{Flaw}
 use Rattle.read_columns.specs.declared.Tested.{Tested}
 use Rattle.read_columns.specs.declared.Tested.the-variants.{Good, Flawed}
@@ -20,8 +18,11 @@ said-by x e said = ap (testedOf x) (sym e) ∙ said
 
 -- a check comes first: where it refuses, that is the verdict, and else what follows
 module _ {A B : Type 0} (v : Verdict A) (next : A → Verdict B) (x : A) {r : Tested} where
-  pub flaw-stops : {f : Flaw} → r ≡ Flawed f → testedOf x r ≡ v → refused (flawOf f) ≡ onward v next
+  flaw-stops : {f : Flaw} → r ≡ Flawed f → testedOf x r ≡ v → refused (flawOf f) ≡ onward v next
   flaw-stops e said = rw (sym (said-by x e said))
+
+  pub flaw-stays : (y : B) {f : Flaw} → r ≡ Flawed f → testedOf x r ≡ v → testedOf y r ≡ onward v next
+  flaw-stays y e said = ap (testedOf y) e ∙ flaw-stops e said
 
   pub good-passes : {w : Verdict B} → r ≡ Good → testedOf x r ≡ v → w ≡ next x → w ≡ onward v next
   good-passes e said s = rw (sym (said-by x e said)) s
@@ -33,20 +34,16 @@ checked-on x (Flawed f) v e = rw (sym e)
 
 -- the fields that are read behind those of `head`, and then the rest
 module _ {B : Type 0} (head : List ℕ) (next : List ℕ → Verdict B) where
-  read-stop : (v : Verdict (List ℕ)) (r : Answer) → refused r ≡ onward v (λ ws. passed (head ++ ws)) → refused r ≡ onward v (λ ws. next (head ++ ws))
-  read-stop (passed ws) r e = absurd (never-passed e)
-  read-stop (refused a) r e = cc
-
-  read-go : (v : Verdict (List ℕ)) (row : List ℕ) → passed row ≡ onward v (λ ws. passed (head ++ ws)) → next row ≡ onward v (λ ws. next (head ++ ws))
-  read-go (passed ws) row e = ap next cc
-  read-go (refused a) row e = absurd (never-passed (sym e))
+  read-then : (v : Verdict (List ℕ)) → onward (onward v (λ ws. passed (head ++ ws))) next ≡ onward v (λ ws. next (head ++ ws))
+  read-then (passed ws) = refl
+  read-then (refused a) = refl
 
   module _ (v : Verdict (List ℕ)) (row : List ℕ) {r : Tested} where
-    pub flaw-read : {f : Flaw} → r ≡ Flawed f → testedOf row r ≡ onward v (λ ws. passed (head ++ ws)) → refused (flawOf f) ≡ onward v (λ ws. next (head ++ ws))
-    flaw-read {f} e said = read-stop v (flawOf f) (said-by row e said)
+    pub flaw-read : (y : B) {f : Flaw} → r ≡ Flawed f → testedOf row r ≡ onward v (λ ws. passed (head ++ ws)) → testedOf y r ≡ onward v (λ ws. next (head ++ ws))
+    flaw-read y e said = flaw-stays _ next row y e said ∙ read-then v
 
-    pub good-read : r ≡ Good → testedOf row r ≡ onward v (λ ws. passed (head ++ ws)) → next row ≡ onward v (λ ws. next (head ++ ws))
-    good-read e said = read-go v row (said-by row e said)
+    pub good-read : {w : Verdict B} → r ≡ Good → testedOf row r ≡ onward v (λ ws. passed (head ++ ws)) → w ≡ next row → w ≡ onward v (λ ws. next (head ++ ws))
+    good-read e said s = good-passes _ next row e said s ∙ read-then v
 
 -- ---- a step
 

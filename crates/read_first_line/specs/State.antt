@@ -2,19 +2,19 @@
 use Prim.Native.Nat.{ℕ, _+_, _≤_, min}
 use mathlib.Core.Path.{_≡_}
 use mathlib.Core.List.{List, _++_, map}
+use lib.Dec.{eqb}
 use lib.ListN.{length, getD, take, replicate}
 use lib.Seq.{sets}
+use Rattle.units.specs.Choice.{if_then_else_}
 use Rattle.units.specs.Units.{bytesOfWords}
 use Rattle.units.specs.Answers.{Verdict, passed, refused, onward}
-use Rattle.words.specs.Words.{bytesOf, mostRecordWords}
+use Rattle.words.specs.Words.{word, bytesOf, mostRecordWords}
 use Rattle.line_plan.specs.Plan.{part, times}
 use Rattle.read_columns.specs.Cases.{flawOf}
 use Rattle.read_first_line.specs.FirstLine.{Shape, card, fields, Read, Head, cards, counts}
 use Rattle.read_first_line.specs.declared.Plan.{Plan}
 use Rattle.read_first_line.specs.declared.Step.{Step}
 use Rattle.read_first_line.specs.declared.Step.the-variants.{Next, Refused}
-use Rattle.read_first_line.specs.declared.Opening.{Opening}
-use Rattle.read_first_line.specs.declared.Opening.the-variants.{Catalogue, Header, Data, Flawed}
 
 -- the Data lines to come: the rest of the present part, then the 1-D parts and the 2-D rows not begun
 unfoldable pub linesLeft : Plan → List ℕ
@@ -68,9 +68,9 @@ pub record CardLines (lines : ℕ) : Type 0 where
   pub one : 1 ≤ lines
   pub most : lines ≤ 199
 
--- the head of a record, where the fields of its first line stand in a row
-abbrev pub headOf : List ℕ → Opening → Verdict Head
-headOf row Catalogue = passed (cards 2001 (take 12 row))
-headOf row Header = passed (cards 3002 (take 15 row))
-headOf row Data = passed (counts (take (min (getD row 12 0) 20) row))
-headOf row (Flawed f) = refused (flawOf f)
+-- the head of a record, where the fields of its first line stand in a row: field 2 says its kind
+unfoldable pub headIn : List ℕ → Head
+headIn row =
+    if eqb (word row 2) 1101 then counts (take (min (word row 13) 20) row)
+    else if eqb (word row 2) 3101 then cards 3002 (take 15 row)
+    else cards 2001 (take 12 row)

@@ -10,14 +10,11 @@ ghost use Prim.Native.Nat.{_-_, _≤_, _<_, min};
 ghost use lib.ListN.{length, getD, take, drop, replicate};
 ghost use lib.Seq.{slice};
 ghost use Rattle.words.specs.Words.{mostRecordWords};
-ghost use Rattle.units.specs.Units.{columnsOfFields};
-ghost use Rattle.units.specs.Answers.{passed, onward};
-ghost use Rattle.read_columns.specs.Columns.{blankAfter, zeroFields};
 ghost use Rattle.counts.specs.Counts.{countsOf, wordsNeeded};
 ghost use Rattle.line_plan.specs.Plan.{plan};
 ghost use Rattle.read_columns.specs.Cases.{testedOf};
-ghost use Rattle.read_first_line.specs.FirstLine.{card, fields, cards, counts, countsIn, countFields, catalogueFields, headerFields, prologueFields, dataFields, kindFields, firstFields, cardsRoom, dataRoom, cardsGiven, dataGiven, headLine, firstLine};
-ghost use Rattle.read_first_line.specs.State.{toCome, Stepped, put, Lent, LentCards, LentData, CardLines, headOf};
+ghost use Rattle.read_first_line.specs.FirstLine.{card, fields, cards, counts, countsIn, countFields, headerFields, prologueFields, dataFields, kindFields, firstFields, cardsRoom, dataRoom, cardsGiven, dataGiven, headLine, firstLine};
+ghost use Rattle.read_first_line.specs.State.{toCome, Stepped, put, Lent, LentCards, LentData, CardLines, headIn};
 
 // What is to come of a record: cards; or fields of the present part, then `singles` 1-D parts and `rows` 2-D rows.
 pub struct Plan {
@@ -49,43 +46,16 @@ pub fn cards_only(cards: Lines) -> Plan
     }
 }
 
-// What the fields of a first line say: which kind of record begins; or why it is refused.
-pub enum Opening {
-    Catalogue,
-    Header,
-    Data,
-    Flawed(Flaw),
-}
-
-// A Catalogue's fields behind the first 12.
-fn catalogue_fields(num: Lines, line: &[u8], row: &[u16]) -> Opening
-    ensures { λ r. ⌜ headOf (now (row .entry)) r ≡ catalogueFields (num .0) (now (line .entry)) (take 12 (now (row .entry))) ⌝ }
-{
-    match read_columns::zero_fields(line, num, Words(12), Words(8)) {
-        Tested::Flawed(f) => Opening::Flawed(f),
-        Tested::Good => Opening::Catalogue,
-    }
-}
-
-// A Header's fields behind the first 15.
-fn header_zeros(num: Lines, line: &[u8], row: &[u16]) -> Opening
-    ensures { λ r. ⌜ headOf (now (row .entry)) r ≡ onward (zeroFields (num .0) (now (line .entry)) 15 5) (λ _. passed (cards 3002 (take 15 (now (row .entry))))) ⌝ }
-{
-    match read_columns::zero_fields(line, num, Words(15), Words(5)) {
-        Tested::Flawed(f) => Opening::Flawed(f),
-        Tested::Good => Opening::Header,
-    }
-}
-
 // A Header's fields behind the first 12.
-fn header_fields(num: Lines, line: &[u8], row: &mut [u16]) -> Opening
+fn header_fields(num: Lines, line: &[u8], row: &mut [u16]) -> Tested
     requires { ⌜ length (now row) ≡ 20 ⌝ }
-    ensures { λ r. ⌜ headOf (now (row .exit)) r ≡ headerFields (num .0) (now (line .entry)) (take 12 (now (row .entry))) ⌝ }
+    ensures { λ r. ⌜ testedOf (cards 3002 (take 15 (now (row .exit)))) r ≡ headerFields (num .0) (now (line .entry)) (take 12 (now (row .entry))) ⌝ }
 {
-    match read_columns::read_numbers(line, num, Words(12), Words(3), row) {
-        Tested::Flawed(f) => Opening::Flawed(f),
-        Tested::Good => header_zeros(num, line, row),
+    let read = read_columns::read_numbers(line, num, Words(12), Words(3), row);
+    if let Tested::Flawed(_) = read {
+        return read;
     }
+    read_columns::zero_fields(line, num, Words(15), Words(5))
 }
 
 // The counts among the fields of a Data record's first line.
@@ -119,55 +89,47 @@ fn count_fields(num: Lines, line: &[u8], row: &mut [u16]) -> Tested
     requires { ⌜ length (now row) ≡ 20 ⌝ }
     ensures { λ r. ⌜ testedOf (take 16 (now (row .exit))) r ≡ countFields (num .0) (now (line .entry)) (take 12 (now (row .entry))) ⌝ }
 {
-    match read_columns::read_numbers(line, num, Words(12), Words(4), row) {
-        Tested::Flawed(f) => Tested::Flawed(f),
-        Tested::Good => counts_in(num, row),
+    let read = read_columns::read_numbers(line, num, Words(12), Words(4), row);
+    if let Tested::Flawed(_) = read {
+        return read;
     }
-}
-
-// Nothing stands behind the fields of a Data record's first line.
-fn data_blanks(num: Lines, line: &[u8], row: &[u16]) -> Opening
-    requires { ⌜ length (now row) ≡ 20 ⌝ }
-    ensures { λ r. ⌜ headOf (now (row .entry)) r ≡ onward (blankAfter (num .0) (now (line .entry)) (columnsOfFields (min (getD (now (row .entry)) 12 0) 20))) (λ _. passed (counts (take (min (getD (now (row .entry)) 12 0) 20) (now (row .entry))))) ⌝ }
-{
-    let used = line_plan::on_line(units::words_said(row[12]));
-    match read_columns::blank_after(line, num, units::columns_of_fields(used)) {
-        Tested::Flawed(f) => Opening::Flawed(f),
-        Tested::Good => Opening::Data,
-    }
+    counts_in(num, row)
 }
 
 // A Data record's fields behind its counts, and nothing behind them.
-fn prologue_fields(num: Lines, line: &[u8], row: &mut [u16]) -> Opening
+fn prologue_fields(num: Lines, line: &[u8], row: &mut [u16]) -> Tested
     requires { ⌜ (length (now row) ≡ 20) × (16 ≤ getD (now row) 12 0) ⌝ }
-    ensures { λ r. ⌜ headOf (now (row .exit)) r ≡ prologueFields (num .0) (now (line .entry)) (take 16 (now (row .entry))) ⌝ }
+    ensures { λ r. ⌜ testedOf (counts (take (min (getD (now (row .exit)) 12 0) 20) (now (row .exit)))) r ≡ prologueFields (num .0) (now (line .entry)) (take 16 (now (row .entry))) ⌝ }
 {
-    let more = line_plan::on_line(units::words_said(row[12])).0 - 16;
-    match read_columns::read_numbers(line, num, Words(16), Words(more), row) {
-        Tested::Flawed(f) => Opening::Flawed(f),
-        Tested::Good => data_blanks(num, line, row),
+    let used = line_plan::on_line(units::words_said(row[12]));
+    let more = used.0 - 16;
+    let read = read_columns::read_numbers(line, num, Words(16), Words(more), row);
+    if let Tested::Flawed(_) = read {
+        return read;
     }
+    read_columns::blank_after(line, num, units::columns_of_fields(used))
 }
 
 // A Data record's fields behind the first 12.
-fn data_fields(num: Lines, line: &[u8], row: &mut [u16]) -> Opening
+fn data_fields(num: Lines, line: &[u8], row: &mut [u16]) -> Tested
     requires { ⌜ length (now row) ≡ 20 ⌝ }
-    ensures { λ r. ⌜ headOf (now (row .exit)) r ≡ dataFields (num .0) (now (line .entry)) (take 12 (now (row .entry))) ⌝ }
+    ensures { λ r. ⌜ testedOf (counts (take (min (getD (now (row .exit)) 12 0) 20) (now (row .exit)))) r ≡ dataFields (num .0) (now (line .entry)) (take 12 (now (row .entry))) ⌝ }
 {
-    match count_fields(num, line, row) {
-        Tested::Flawed(f) => Opening::Flawed(f),
-        Tested::Good => prologue_fields(num, line, row),
+    let read = count_fields(num, line, row);
+    if let Tested::Flawed(_) = read {
+        return read;
     }
+    prologue_fields(num, line, row)
 }
 
 // A record's fields behind the first 12, which say its kind.
-fn kind_fields(num: Lines, line: &[u8], row: &mut [u16]) -> Opening
+fn kind_fields(num: Lines, line: &[u8], row: &mut [u16]) -> Tested
     requires { ⌜ length (now row) ≡ 20 ⌝ }
-    ensures { λ r. ⌜ headOf (now (row .exit)) r ≡ kindFields (num .0) (now (line .entry)) (take 12 (now (row .entry))) ⌝ }
+    ensures { λ r. ⌜ testedOf (headIn (now (row .exit))) r ≡ kindFields (num .0) (now (line .entry)) (take 12 (now (row .entry))) ⌝ }
 {
     let kind = row[1];
     if kind == 2101 {
-        return catalogue_fields(num, line, row);
+        return read_columns::zero_fields(line, num, Words(12), Words(8));
     }
     if kind == 3101 {
         return header_fields(num, line, row);
@@ -175,18 +137,19 @@ fn kind_fields(num: Lines, line: &[u8], row: &mut [u16]) -> Opening
     if kind == 1101 {
         return data_fields(num, line, row);
     }
-    Opening::Flawed(Flaw::Kind(num))
+    Tested::Flawed(Flaw::Kind(num))
 }
 
 // The fields of a record's first line, into the row.
-fn first_fields(num: Lines, line: &[u8], row: &mut [u16]) -> Opening
+fn first_fields(num: Lines, line: &[u8], row: &mut [u16]) -> Tested
     requires { ⌜ length (now row) ≡ 20 ⌝ }
-    ensures { λ r. ⌜ headOf (now (row .exit)) r ≡ firstFields (num .0) (now (line .entry)) ⌝ }
+    ensures { λ r. ⌜ testedOf (headIn (now (row .exit))) r ≡ firstFields (num .0) (now (line .entry)) ⌝ }
 {
-    match read_columns::read_numbers(line, num, Words(0), Words(12), row) {
-        Tested::Flawed(f) => Opening::Flawed(f),
-        Tested::Good => kind_fields(num, line, row),
+    let read = read_columns::read_numbers(line, num, Words(0), Words(12), row);
+    if let Tested::Flawed(_) = read {
+        return read;
     }
+    kind_fields(num, line, row)
 }
 
 // Puts a record's first words: LTOT, its kind, and the fields of its first line from field 3 on.
@@ -259,10 +222,10 @@ fn cards_line(
     requires { ⌜ LentCards (now row) (held .0) (used .0) ⌝ }
     ensures { λ r. ⌜ Stepped (held .0) (now (block .entry)) (headLine (num .0) (held .0) (cards kind (take (used .0) (now (row .entry))))) (now (block .exit)) r ⌝ }
 {
-    match cards_room(num, held, row[0]) {
-        Tested::Flawed(f) => Step::Refused(f),
-        Tested::Good => put_cards(kind, held, used, row, block),
+    if let Tested::Flawed(f) = cards_room(num, held, row[0]) {
+        return Step::Refused(f);
     }
+    put_cards(kind, held, used, row, block)
 }
 
 // There is room for a Data record with these counts, and its stated line count is what they need.
@@ -322,10 +285,10 @@ fn data_line(num: Lines, held: Words, row: &[u16], block: &mut [u8]) -> Step
     requires { ⌜ LentData (now row) (held .0) ⌝ }
     ensures { λ r. ⌜ Stepped (held .0) (now (block .entry)) (headLine (num .0) (held .0) (counts (take (min (getD (now (row .entry)) 12 0) 20) (now (row .entry))))) (now (block .exit)) r ⌝ }
 {
-    match data_room(num, held, row[0], row_counts(row)) {
-        Tested::Flawed(f) => Step::Refused(f),
-        Tested::Good => put_data(held, row, block),
+    if let Tested::Flawed(f) = data_room(num, held, row[0], row_counts(row)) {
+        return Step::Refused(f);
     }
+    put_data(held, row, block)
 }
 
 // A record's first line: its fields, then its counts.
@@ -333,10 +296,15 @@ pub fn first_line(num: Lines, held: Words, line: &[u8], row: &mut [u16], block: 
     requires { ⌜ Lent (now row) (held .0) ⌝ }
     ensures { λ r. ⌜ Stepped (held .0) (now (block .entry)) (firstLine (num .0) (held .0) (now (line .entry))) (now (block .exit)) r ⌝ }
 {
-    match first_fields(num, line, row) {
-        Opening::Flawed(f) => Step::Refused(f),
-        Opening::Catalogue => cards_line(num, held, record::CATALOGUE, Words(12), row, block),
-        Opening::Header => cards_line(num, held, record::HEADER, Words(15), row, block),
-        Opening::Data => data_line(num, held, row, block),
+    if let Tested::Flawed(f) = first_fields(num, line, row) {
+        return Step::Refused(f);
     }
+    let kind = row[1];
+    if kind == 1101 {
+        return data_line(num, held, row, block);
+    }
+    if kind == 3101 {
+        return cards_line(num, held, record::HEADER, Words(15), row, block);
+    }
+    cards_line(num, held, record::CATALOGUE, Words(12), row, block)
 }

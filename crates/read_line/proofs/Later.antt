@@ -1,27 +1,83 @@
 -- A later line of a record, by what is to come.
-use mathlib.Core.Path.{_≡_}
-use mathlib.Core.List.{List, _∷_}
-use Prim.Native.Nat.{ℕ}
+use mathlib.Core.Path.{_≡_, sym, ap, _∙_}
+use mathlib.Core.List.{List, [], _∷_}
+use Prim.Native.Nat.{ℕ, _+_, _*_, _≤_, min}
 use native.Mathlib.Omega.{arith}
-use lib.ListN.{length}
-use Rattle.units.specs.Answers.{onward}
+use native.Mathlib.Nat.{zero-add}
+use lib.ListN.{length, take}
+use lib.Seq.{length-take-le}
+use Rattle.units.specs.declared.Words.{Words}
+use Rattle.units.specs.Answers.{Verdict, passed, onward}
 use Rattle.words.specs.Words.{wordsOf}
 use Rattle.words.proofs.Laws.{length-wordsOf}
 use Rattle.field.specs.Reading.{columns}
-use Rattle.read_columns.specs.Columns.{blankAfter}
-use Rattle.read_first_line.specs.FirstLine.{Shape, card, fields, gives}
-use Rattle.read_line.specs.Lines.{rowFields, inState}
+use Rattle.read_columns.specs.declared.Flaw.{Flaw}
+use Rattle.read_columns.specs.declared.Tested.{Tested}
+use Rattle.read_columns.specs.declared.Tested.the-variants.{Good, Flawed}
+use Rattle.read_columns.specs.Cases.{testedOf}
+use Rattle.read_columns.specs.Columns.{blankAfter, fieldNumbers}
 use Rattle.read_columns.proofs.Columns.{length-columns}
+use Rattle.read_first_line.specs.declared.Plan.{Plan}
+use Rattle.read_first_line.specs.declared.Step.{Step}
+use Rattle.read_first_line.specs.declared.Step.the-variants.{Next, Refused}
+use Rattle.read_first_line.specs.FirstLine.{Shape, card, fields, gives}
+use Rattle.read_first_line.specs.State.{toCome, Stepped, put, Lent}
+use Rattle.read_first_line.proofs.Steps.{checked-on, flaw-read, good-read, same-step, flaw-ends, good-goes, passed-stand}
+use Rattle.read_line.specs.Lines.{rowFields, inState}
+use Rattle.read_line.specs.State.{Settled}
+use Rattle.read_line.proofs.ToCome.{none-to-come}
 
-module _ (num held : ℕ) (l : List ℕ) (here rest : List Shape) where
-  pub card-is : here ≡ card ∷ rest → inState num held here l ≡ onward (blankAfter num l 80) (λ _. gives (wordsOf (columns 80 l 0)) rest)
-  unfolding inState
-  card-is e = rw e
+-- ---- the fields of a line, and nothing behind them
 
-  pub fields-is : (n : ℕ) → here ≡ fields n ∷ rest → inState num held here l ≡ onward (rowFields num l n) (λ ws. gives ws rest)
-  unfolding inState
-  fields-is n e = rw e
+abbrev blanks : ℕ → List ℕ → ℕ → List ℕ → Verdict (List ℕ)
+blanks num l n ws = onward (blankAfter num l (6 * n)) (λ _. passed ws)
+
+module _ (num n : ℕ) (l row : List ℕ) (t : Tested) (read : testedOf (take (0 + n) row) t ≡ onward (fieldNumbers num l 0 n) (λ ws. passed ws)) where
+  pub row-stops : (y : List ℕ) {f : Flaw} → t ≡ Flawed f → testedOf y t ≡ rowFields num l n
+  unfolding rowFields
+  row-stops y e = flaw-read [] (blanks num l n) (fieldNumbers num l 0 n) (take (0 + n) row) y e read
+
+  pub row-goes : (columns : ℕ) (r : Tested) → t ≡ Good → columns ≡ 6 * n → testedOf tt r ≡ blankAfter num l columns → testedOf (take n row) r ≡ rowFields num l n
+  unfolding rowFields
+  row-goes columns r e all said =
+      good-read [] (blanks num l n) (fieldNumbers num l 0 n) (take n row) e (rw zero-add at read) (checked-on (take n row) r (blankAfter num l (6 * n)) (said ∙ ap (blankAfter num l) all))
+
+-- ---- a line, once it is tested, and its words are put
 
 -- a card has 40 words
 pub card-size : (l : List ℕ) → length (wordsOf (columns 80 l 0)) ≡ 40
 card-size l = let e = length-columns 80 l 0 in omega (arith, length-wordsOf (columns 80 l 0))
+
+module _ (num held : ℕ) (l : List ℕ) (t : Tested) {b b′ : List ℕ} (here rest : List Shape) where
+  module _ (e : here ≡ card ∷ rest) (said : testedOf tt t ≡ blankAfter num l 80) where
+    pub card-stops : {f : Flaw} → t ≡ Flawed f → Stepped held b (inState num held here l) b′ (Refused f)
+    unfolding inState
+    card-stops g = rw e (flaw-ends (blankAfter num l 80) (λ _. gives (wordsOf (columns 80 l 0)) rest) tt g said)
+
+    pub card-goes : {p : Plan} {n : Words} → t ≡ Good → toCome p ≡ rest → b′ ≡ put held b (wordsOf (columns 80 l 0)) → n .0 ≡ held + 40 → Stepped held b (inState num held here l) b′ (Next p n)
+    unfolding inState
+    card-goes g to at all =
+        rw e (good-goes (blankAfter num l 80) (λ _. gives (wordsOf (columns 80 l 0)) rest) tt g said (record { is = passed-stand to (omega (arith, card-size l)) at }))
+
+  module _ (k : ℕ) (row : List ℕ) (e : here ≡ fields k ∷ rest) (said : testedOf (take k row) t ≡ rowFields num l k) where
+    pub fields-stop : {f : Flaw} → t ≡ Flawed f → Stepped held b (inState num held here l) b′ (Refused f)
+    unfolding inState
+    fields-stop g = rw e (flaw-ends (rowFields num l k) (λ ws. gives ws rest) (take k row) g said)
+
+    pub fields-go : {p : Plan} {n : Words} (row₀ : List ℕ) (left : ℕ) → t ≡ Good → Lent row₀ held → length row ≡ length row₀ → k ≡ min left 20 → toCome p ≡ rest → b′ ≡ put held b (take k row) → n .0 ≡ held + k → Stepped held b (inState num held here l) b′ (Next p n)
+    unfolding inState
+    fields-go row₀ left g lent kept most to at all =
+        let fits : k ≤ length row = omega (arith, lent .row) in
+        rw e (good-goes (rowFields num l k) (λ ws. gives ws rest) (take k row) g said (record { is = passed-stand to (omega (arith, length-take-le k row fits)) at }))
+
+-- ---- what is to come, where the present part is settled
+
+module _ (num held : ℕ) (l : List ℕ) {b b′ : List ℕ} {s : Step} (p q : Plan) (e : toCome q ≡ toCome p) where
+  pub as-settled : Stepped held b (inState num held (toCome q) l) b′ s → Stepped held b (inState num held (toCome p) l) b′ s
+  as-settled = same-step _ _ (ap (λ s. inState num held s l) e)
+
+  pub none-settled : toCome q ≡ [] → Stepped held b (inState num held [] l) b′ s → Stepped held b (inState num held (toCome p) l) b′ s
+  none-settled n = same-step _ _ (ap (λ s. inState num held s l) (sym n ∙ e))
+
+pub nothing-left : (q : Plan) → Settled q → q .cards .0 ≤ 0 → q .left .0 ≤ 0 → toCome q ≡ []
+nothing-left q h no-cards none = none-to-come q (omega arith) (h (omega arith))

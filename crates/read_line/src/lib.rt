@@ -102,13 +102,11 @@ fn card_line(p: Plan, num: Lines, held: Words, line: &[u8], block: &mut [u8]) ->
 {
     let behind = held.0 + 40;
     let rest = one_card_less(p);
-    match read_columns::blank_after(line, num, Bytes(80)) {
-        Tested::Flawed(f) => Step::Refused(f),
-        Tested::Good => {
-            put_card(line, block, held);
-            Step::Next(rest, Words(behind))
-        }
+    if let Tested::Flawed(f) = read_columns::blank_after(line, num, Bytes(80)) {
+        return Step::Refused(f);
     }
+    put_card(line, block, held);
+    Step::Next(rest, Words(behind))
 }
 
 // The plan with these cards and these fields of the present part to come.
@@ -142,10 +140,11 @@ fn row_fields(num: Lines, count: Words, line: &[u8], row: &mut [u16]) -> Tested
     requires { ⌜ (count .0 ≤ 20) × (length (now row) ≡ 20) ⌝ }
     ensures { λ r. ⌜ testedOf (take (count .0) (now (row .exit))) r ≡ rowFields (num .0) (now (line .entry)) (count .0) ⌝ }
 {
-    match read_columns::read_numbers(line, num, Words(0), count, row) {
-        Tested::Flawed(f) => Tested::Flawed(f),
-        Tested::Good => read_columns::blank_after(line, num, units::columns_of_fields(count)),
+    let read = read_columns::read_numbers(line, num, Words(0), count, row);
+    if let Tested::Flawed(_) = read {
+        return read;
     }
+    read_columns::blank_after(line, num, units::columns_of_fields(count))
 }
 
 // A later line of a Data record.
@@ -165,13 +164,11 @@ fn fields_line(
     let first = held.0 + 1;
     let behind = held.0 + count.0;
     let rest = one_line_less(p, count);
-    match row_fields(num, count, line, row) {
-        Tested::Flawed(f) => Step::Refused(f),
-        Tested::Good => {
-            read_store::store_words(row, Words(0), count, block, Words(first));
-            Step::Next(rest, Words(behind))
-        }
+    if let Tested::Flawed(f) = row_fields(num, count, line, row) {
+        return Step::Refused(f);
     }
+    read_store::store_words(row, Words(0), count, block, Words(first));
+    Step::Next(rest, Words(behind))
 }
 
 // What is to come after a line of the present part.

@@ -7,8 +7,9 @@ pub cards-line-spec : {M : Type 1} → statement M
 cards-line-spec =
     tie.close
     (tie.spec
-    (λ c. search needs) (λ c κs. search needs) (λ c. search needs) (λ c. search needs)
-    (λ c κs. search (cards-fit, needs))
+    (λ c. search needs) (λ c κs. search needs) (λ c. search needs)
     (λ c. search cards-flaw)
+    (λ c. search needs)
+    (λ c κs. search (cards-fit, needs))
     (λ c. search needs)
     (λ c. search cards-good))

@@ -7,8 +7,9 @@ pub data-line-spec : {M : Type 1} → statement M
 data-line-spec =
     tie.close
     (tie.spec
-    (λ c. search needs) (λ c κs. search needs) (λ c κs. search needs) (λ c. search needs) (λ c. search needs)
-    (λ c κs. search (data-fits, needs))
+    (λ c. search needs) (λ c κs. search needs) (λ c κs. search needs) (λ c. search needs)
     (λ c. search data-flaw)
+    (λ c. search needs)
+    (λ c κs. search (data-fits, needs))
     (λ c. search needs)
     (λ c. search data-good))
