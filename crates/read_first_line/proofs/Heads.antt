@@ -13,14 +13,14 @@ use Rattle.units.specs.Answers.{answer, passed, refused}
 use Rattle.units.proofs.Verdicts.{else-passed, or-off}
 use Rattle.counts.specs.declared.Counts.{Counts}
 use Rattle.words.specs.Words.{bytesOf, mostRecordWords}
-use Rattle.words.proofs.Laws.{bytes-append, length-bytesOf}
+use Rattle.words.proofs.Laws.{bytes-append, length-bytesOf, zero-bytes}
 use Rattle.words.proofs.Writing.{sets-append}
 use Rattle.counts.specs.Counts.{countsOf, wordsNeeded, inRange}
 use Rattle.counts.proofs.FourCounts.{counts-first, counts-take}
 use Rattle.line_plan.specs.Plan.{plan}
 use Rattle.read_columns.specs.Columns.{columnOf}
 use Rattle.read_first_line.specs.FirstLine.{card, fields, gives, countsIn, cardsRoom, dataRoom, cardsGiven, dataGiven}
-use Rattle.read_first_line.specs.State.{put, CardLines}
+use Rattle.read_first_line.specs.State.{put, LentCards, CardLines}
 
 -- words that are put one after the other
 pub put-append : (held : ℕ) (block ws vs : List ℕ) → put held block (ws ++ vs) ≡ put (held + length ws) (put held block ws) vs
@@ -29,14 +29,14 @@ put-append held block ws vs =
     ap (sets block ((held + 1) * 2)) (bytes-append ws vs) ∙ sets-append block ((held + 1) * 2) (bytesOf ws) (bytesOf vs)
     ∙ ap (λ at. sets (put held block ws) at (bytesOf vs)) e
 
--- three pieces of a head
-pub put-three : (held : ℕ) (block : List ℕ) (x y : ℕ) (ws : List ℕ) →
-    sets (sets (sets block ((held + 1) * 2) (bytesOf (x ∷ []))) ((held + 1 + 1) * 2) (bytesOf (y ∷ []))) ((held + 1 + 1 + 1) * 2) (bytesOf ws) ≡ put held block (x ∷ (y ∷ ws))
+-- a head is put in three pieces
+pub head-put : (held total w kind : ℕ) (ws b b₁ b₂ b₃ : List ℕ) → w ≡ total → b₁ ≡ sets b ((held + 1) * 2) (bytesOf (w ∷ [])) → b₂ ≡ sets b₁ ((held + 1 + 1) * 2) (bytesOf (kind ∷ []))
+    → b₃ ≡ sets b₂ ((held + 1 + 1 + 1) * 2) (bytesOf ws) → b₃ ≡ put held b (total ∷ (kind ∷ ws))
 unfolding bytesOf
-put-three held block x y ws =
+head-put held total w kind ws b b₁ b₂ b₃ is first second third =
     let e : (held + 1 + 1) * 2 ≡ suc (suc ((held + 1) * 2)) = omega arith in
     let f : (held + 1 + 1 + 1) * 2 ≡ suc (suc (suc (suc ((held + 1) * 2)))) = omega arith in
-    rw (f, e)
+    rw (third, second, first, is, f, e)
 
 module _ (row : List ℕ) (used : ℕ) (h : used ≤ length row) where
   -- the words of a Catalogue's or a Header's first line are 40
@@ -54,6 +54,15 @@ module _ (row : List ℕ) (used : ℕ) (h : used ≤ length row) where
 
   pub data-is : 16 ≤ used → let c = countsOf row in dataGiven (take used row) ≡ gives (wordsNeeded c ∷ (1002 ∷ slice 2 used row)) (map fields (drop 1 (plan c)))
   data-is low = ap (λ c. gives (wordsNeeded c ∷ (1002 ∷ slice 2 used row)) (map fields (drop 1 (plan c)))) (counts-take used row low)
+
+-- zeros fill up a Catalogue's or a Header's
+pub head-filled : (row : List ℕ) (used held total kind at size : ℕ) (b b₁ b₂ : List ℕ) → LentCards row held used → b₁ ≡ put held b (total ∷ (kind ∷ slice 2 used row)) → at ≡ (held + 1 + used) * 2
+    → size ≡ (40 - used) * 2 → b₂ ≡ sets b₁ at (replicate size 0) → b₂ ≡ put held b (total ∷ (kind ∷ slice 2 used row) ++ replicate (40 - used) 0)
+head-filled row used held total kind at size b b₁ b₂ l first is all last =
+    let head = total ∷ (kind ∷ slice 2 used row) in
+    let fits : used ≤ length row = omega arith in
+    let to : at ≡ (held + length head + 1) * 2 = omega (arith, head-length row used fits total kind (l .two)) in
+    last ∙ rw (to, all, sym (zero-bytes (40 - used)), first) (sym (put-append held b head (replicate (40 - used) 0)))
 
 -- where there is room for a Data record, it is small
 pub room-most : (num held lines : ℕ) (c : Counts) → passed tt ≡ dataRoom num held lines c → held + wordsNeeded c ≤ mostRecordWords
