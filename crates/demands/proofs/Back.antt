@@ -21,7 +21,7 @@ use Rattle.units.specs.Units.{Line}
 use Rattle.read_columns.specs.Columns.{plainLine, isBlank, blankTo, blankAfter, blankLine, wordIn, number, fieldNumbers, blankField, zeroField, zeroFields}
 use Rattle.read_columns.proofs.Columns.{right-to, columns-part}
 use Rattle.read_first_line.specs.FirstLine.{Shape, card, fields, gives, firstLine}
-use Rattle.read_line.specs.Lines.{rowFields, inState, readLine, readLines}
+use Rattle.read_line.specs.Lines.{laterFields, inState, readLine, readLines}
 use Rattle.read_text.specs.Spelled.{PlainByte, Readable, Blanks, Spells, SpellsAll, SpellsZero, LineSpells, LinesSpell, no-lines, a-line}
 use Rattle.read_text.proofs.Columns.{all-blank}
 
@@ -129,7 +129,7 @@ skip-back num held l ls r h =
 
 -- a line after a record's first
 later-back : (num held : ℕ) (x : Shape) (rest : List Shape) (l : Line) (ws : List ℕ) → LineSpells x l ws → inState num held (x ∷ rest) l ≡ gives ws rest
-unfolding inState rowFields
+unfolding inState laterFields
 later-back num held card rest l ws h = rw (blank-back num l 80 (h .1), h .0)
 later-back num held (fields n) rest l ws h =
     rw (numbers-back num l ws (h .1) 0 n (omega (arith, h .0)), blank-back num l (6 * n) (h .2), take-all n ws (omega (arith, h .0)))

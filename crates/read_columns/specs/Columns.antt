@@ -12,7 +12,7 @@ use Rattle.field.specs.Reading.{readField, columns}
 use Rattle.field.specs.declared.Number.{Number}
 use Rattle.field.specs.declared.Number.the-variants.{Word, Bad}
 
--- rows 20 and 26: the first c columns of line num are right, and the next, where the line has one, is the "first such column"
+-- row n, 20 or 26: the first c columns of line num are right, and the next, where the line has one, is the "first such column"
 unfoldable pub rightTo : ℕ → ℕ → Line → ℕ → Verdict (Unit {0})
 rightTo n num l c = if ltb c (length l) then refused (answer n num (c + 1) 0) else passed tt
 

@@ -38,11 +38,11 @@ pub fn plain_to(line: &[u8], plain: Bytes) -> Bytes
     requires { ⌜ plain .0 ≡ plainIn (now line) ⌝ }
     ensures { λ r. ⌜ r .0 ≡ plainTo (now (line .entry)) ⌝ }
 {
-    Bytes(least(120, plain.0))
+    Bytes(lesser(120, plain.0))
 }
 
 // The lesser of two numbers.
-fn least(a: usize, b: usize) -> usize
+fn lesser(a: usize, b: usize) -> usize
     ensures { λ r. ⌜ r ≡ min a b ⌝ }
 {
     if a < b { a } else { b }
@@ -115,7 +115,7 @@ fn blank_field(line: &[u8], k: Words) -> bool
 {
     let before = units::columns_of_fields(k);
     let last = before.0 + 6;
-    least(last, line.len()) <= blank_to(line, before)
+    lesser(last, line.len()) <= blank_to(line, before)
 }
 
 // A field that must be 0, or blank, which means 0.
@@ -159,21 +159,21 @@ pub fn numbers(f: Flaw) -> Answer
     ensures { λ r. ⌜ r ≡ flawOf f ⌝ }
 {
     match f {
-        Flaw::Byte(line, column) => spot(20, line, column),
-        Flaw::NoRecord => spot(21, Lines(0), Bytes(0)),
-        Flaw::Field(line, column) => spot(22, line, column),
-        Flaw::Kind(line) => spot(23, line, Bytes(7)),
-        Flaw::Count(line) => spot(24, line, Bytes(1)),
-        Flaw::Ends(line) => spot(25, line, Bytes(1)),
-        Flaw::NotBlank(line, column) => spot(26, line, column),
-        Flaw::Range(line, column) => spot(27, line, column),
-        Flaw::Much(line) => spot(28, line, Bytes(1)),
-        Flaw::Long => spot(30, Lines(0), Bytes(0)),
+        Flaw::Byte(line, column) => at_column(20, line, column),
+        Flaw::NoRecord => at_column(21, Lines(0), Bytes(0)),
+        Flaw::Field(line, column) => at_column(22, line, column),
+        Flaw::Kind(line) => at_column(23, line, Bytes(7)),
+        Flaw::Count(line) => at_column(24, line, Bytes(1)),
+        Flaw::Ends(line) => at_column(25, line, Bytes(1)),
+        Flaw::NotBlank(line, column) => at_column(26, line, column),
+        Flaw::Range(line, column) => at_column(27, line, column),
+        Flaw::Much(line) => at_column(28, line, Bytes(1)),
+        Flaw::Long => at_column(30, Lines(0), Bytes(0)),
     }
 }
 
 // Refusal n at a line and a column.
-fn spot(n: u8, line: Lines, column: Bytes) -> Answer
+fn at_column(n: u8, line: Lines, column: Bytes) -> Answer
     requires { ⌜ (line .0 < 2 ^ 24) × (column .0 < 2 ^ 16) ⌝ }
     ensures { λ r. ⌜ r ≡ answer n (line .0) (column .0) 0 ⌝ }
 {

@@ -1,5 +1,5 @@
 pub mod Steps
-pub mod ToCome
+pub mod Coming
 pub mod Heads
 pub mod Fronts
 pub mod Puts

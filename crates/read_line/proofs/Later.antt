@@ -17,13 +17,13 @@ use Rattle.read_columns.specs.declared.Tested.the-variants.{Good, Flawed}
 use Rattle.read_columns.specs.Cases.{testedOf}
 use Rattle.read_columns.specs.Columns.{blankAfter, fieldNumbers}
 use Rattle.read_columns.proofs.Columns.{length-columns}
-use Rattle.read_first_line.specs.declared.Plan.{Plan}
-use Rattle.read_first_line.specs.declared.Step.{Step}
-use Rattle.read_first_line.specs.declared.Step.the-variants.{Next, Refused}
+use Rattle.read_first_line.specs.declared.ToCome.{ToCome}
+use Rattle.read_first_line.specs.declared.Advance.{Advance}
+use Rattle.read_first_line.specs.declared.Advance.the-variants.{Next, Refused}
 use Rattle.read_first_line.specs.FirstLine.{Shape, card, fields, gives}
-use Rattle.read_first_line.specs.State.{toCome, Stepped, put, Lent}
+use Rattle.read_first_line.specs.State.{toCome, Advanced, put, Lent}
 use Rattle.read_first_line.proofs.Steps.{checked-on, flaw-read, good-read, same-step, flaw-ends, good-goes, passed-stand}
-use Rattle.read_line.specs.Lines.{rowFields, inState}
+use Rattle.read_line.specs.Lines.{laterFields, inState}
 use Rattle.read_line.specs.State.{Settled}
 use Rattle.read_line.proofs.ToCome.{none-to-come}
 
@@ -33,12 +33,12 @@ abbrev blanks : ℕ → List ℕ → ℕ → List ℕ → Verdict (List ℕ)
 blanks num l n ws = onward (blankAfter num l (6 * n)) (λ _. passed ws)
 
 module _ (num n : ℕ) (l row : List ℕ) (t : Tested) (read : testedOf (take (0 + n) row) t ≡ onward (fieldNumbers num l 0 n) (λ ws. passed ws)) where
-  pub row-stops : (y : List ℕ) {f : Flaw} → t ≡ Flawed f → testedOf y t ≡ rowFields num l n
-  unfolding rowFields
+  pub row-stops : (y : List ℕ) {f : Flaw} → t ≡ Flawed f → testedOf y t ≡ laterFields num l n
+  unfolding laterFields
   row-stops y e = flaw-read [] (blanks num l n) (fieldNumbers num l 0 n) (take (0 + n) row) y e read
 
-  pub row-goes : (columns : ℕ) (r : Tested) → t ≡ Good → columns ≡ 6 * n → testedOf tt r ≡ blankAfter num l columns → testedOf (take n row) r ≡ rowFields num l n
-  unfolding rowFields
+  pub row-goes : (columns : ℕ) (r : Tested) → t ≡ Good → columns ≡ 6 * n → testedOf tt r ≡ blankAfter num l columns → testedOf (take n row) r ≡ laterFields num l n
+  unfolding laterFields
   row-goes columns r e all said =
       good-read [] (blanks num l n) (fieldNumbers num l 0 n) (take n row) e (rw zero-add at read) (checked-on (take n row) r (blankAfter num l (6 * n)) (said ∙ ap (blankAfter num l) all))
 
@@ -50,34 +50,34 @@ card-size l = let e = length-columns 80 l 0 in omega (arith, length-wordsOf (col
 
 module _ (num held : ℕ) (l : List ℕ) (t : Tested) {b b′ : List ℕ} (here rest : List Shape) where
   module _ (e : here ≡ card ∷ rest) (said : testedOf tt t ≡ blankAfter num l 80) where
-    pub card-stops : {f : Flaw} → t ≡ Flawed f → Stepped held b (inState num held here l) b′ (Refused f)
+    pub card-stops : {f : Flaw} → t ≡ Flawed f → Advanced held b (inState num held here l) b′ (Refused f)
     unfolding inState
     card-stops g = rw e (flaw-ends (blankAfter num l 80) (λ _. gives (wordsOf (columns 80 l 0)) rest) tt g said)
 
-    pub card-goes : {p : Plan} {n : Words} → t ≡ Good → toCome p ≡ rest → b′ ≡ put held b (wordsOf (columns 80 l 0)) → n .0 ≡ held + 40 → Stepped held b (inState num held here l) b′ (Next p n)
+    pub card-goes : {p : ToCome} {n : Words} → t ≡ Good → toCome p ≡ rest → b′ ≡ put held b (wordsOf (columns 80 l 0)) → n .0 ≡ held + 40 → Advanced held b (inState num held here l) b′ (Next p n)
     unfolding inState
     card-goes g to at all =
         rw e (good-goes (blankAfter num l 80) (λ _. gives (wordsOf (columns 80 l 0)) rest) tt g said (record { is = passed-stand to (omega (arith, card-size l)) at }))
 
-  module _ (k : ℕ) (row : List ℕ) (e : here ≡ fields k ∷ rest) (said : testedOf (take k row) t ≡ rowFields num l k) where
-    pub fields-stop : {f : Flaw} → t ≡ Flawed f → Stepped held b (inState num held here l) b′ (Refused f)
+  module _ (k : ℕ) (row : List ℕ) (e : here ≡ fields k ∷ rest) (said : testedOf (take k row) t ≡ laterFields num l k) where
+    pub fields-stop : {f : Flaw} → t ≡ Flawed f → Advanced held b (inState num held here l) b′ (Refused f)
     unfolding inState
-    fields-stop g = rw e (flaw-ends (rowFields num l k) (λ ws. gives ws rest) (take k row) g said)
+    fields-stop g = rw e (flaw-ends (laterFields num l k) (λ ws. gives ws rest) (take k row) g said)
 
-    pub fields-go : {p : Plan} {n : Words} (row₀ : List ℕ) (left : ℕ) → t ≡ Good → Lent row₀ held → length row ≡ length row₀ → k ≡ min left 20 → toCome p ≡ rest → b′ ≡ put held b (take k row) → n .0 ≡ held + k → Stepped held b (inState num held here l) b′ (Next p n)
+    pub fields-go : {p : ToCome} {n : Words} (row₀ : List ℕ) (left : ℕ) → t ≡ Good → Lent row₀ held → length row ≡ length row₀ → k ≡ min left 20 → toCome p ≡ rest → b′ ≡ put held b (take k row) → n .0 ≡ held + k → Advanced held b (inState num held here l) b′ (Next p n)
     unfolding inState
     fields-go row₀ left g lent kept most to at all =
         let fits : k ≤ length row = omega (arith, lent .row) in
-        rw e (good-goes (rowFields num l k) (λ ws. gives ws rest) (take k row) g said (record { is = passed-stand to (omega (arith, length-take-le k row fits)) at }))
+        rw e (good-goes (laterFields num l k) (λ ws. gives ws rest) (take k row) g said (record { is = passed-stand to (omega (arith, length-take-le k row fits)) at }))
 
 -- ---- what is to come, where the present part is settled
 
-module _ (num held : ℕ) (l : List ℕ) {b b′ : List ℕ} {s : Step} (p q : Plan) (e : toCome q ≡ toCome p) where
-  pub as-settled : Stepped held b (inState num held (toCome q) l) b′ s → Stepped held b (inState num held (toCome p) l) b′ s
+module _ (num held : ℕ) (l : List ℕ) {b b′ : List ℕ} {s : Advance} (p q : ToCome) (e : toCome q ≡ toCome p) where
+  pub as-settled : Advanced held b (inState num held (toCome q) l) b′ s → Advanced held b (inState num held (toCome p) l) b′ s
   as-settled = same-step _ _ (ap (λ s. inState num held s l) e)
 
-  pub none-settled : toCome q ≡ [] → Stepped held b (inState num held [] l) b′ s → Stepped held b (inState num held (toCome p) l) b′ s
+  pub none-settled : toCome q ≡ [] → Advanced held b (inState num held [] l) b′ s → Advanced held b (inState num held (toCome p) l) b′ s
   none-settled n = same-step _ _ (ap (λ s. inState num held s l) (sym n ∙ e))
 
-pub nothing-left : (q : Plan) → Settled q → q .cards .0 ≤ 0 → q .left .0 ≤ 0 → toCome q ≡ []
+pub nothing-left : (q : ToCome) → Settled q → q .cards .0 ≤ 0 → q .left .0 ≤ 0 → toCome q ≡ []
 nothing-left q h no-cards none = none-to-come q (omega arith) (h (omega arith))

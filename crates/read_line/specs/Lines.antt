@@ -12,13 +12,13 @@ use Rattle.read_columns.specs.Columns.{plainLine, blankAfter, blankLine, fieldN
 use Rattle.read_first_line.specs.FirstLine.{Shape, card, fields, Read, gives, firstLine}
 
 -- of a later line, after 25 and 20: "fields by 22, blank columns by 26"
-unfoldable pub rowFields : ℕ → Line → ℕ → Verdict (List ℕ)
-rowFields num l n = onward (fieldNumbers num l 0 n) (λ ws. onward (blankAfter num l (columnsOfFields n)) (λ _. passed ws))
+unfoldable pub laterFields : ℕ → Line → ℕ → Verdict (List ℕ)
+laterFields num l n = onward (fieldNumbers num l 0 n) (λ ws. onward (blankAfter num l (columnsOfFields n)) (λ _. passed ws))
 
 -- "Each card is one line of 80 columns", and 81 to 120 are blank; "Within a record a blank line is a blank card, or a Data line with bad fields"; "Blank lines may stand before, between and after records"
 unfoldable pub inState : ℕ → ℕ → List Shape → Line → Verdict Read
 inState num held (card ∷ rest) l = onward (blankAfter num l 80) (λ _. gives (wordsOf (columns 80 l 0)) rest)
-inState num held (fields n ∷ rest) l = onward (rowFields num l n) (λ ws. gives ws rest)
+inState num held (fields n ∷ rest) l = onward (laterFields num l n) (λ ws. gives ws rest)
 inState num held [] l = if blankLine l then gives [] [] else firstLine num held l
 
 -- a line, where `rest` is what is still to come: row 20 is tested first on every line

@@ -1,8 +1,8 @@
 // Reads a line of a text, by what is to come of a record, and puts its words into a block as far as that has room.
 use read_columns::Flaw;
 use read_columns::Tested;
-use read_first_line::Plan;
-use read_first_line::Step;
+use read_first_line::Advance;
+use read_first_line::ToCome;
 use units::Bytes;
 use units::Lines;
 use units::Words;
@@ -16,8 +16,8 @@ ghost use Rattle.line_plan.specs.Plan.{part, times};
 ghost use Rattle.field.specs.Reading.{columns};
 ghost use Rattle.read_columns.specs.Cases.{testedOf};
 ghost use Rattle.read_first_line.specs.FirstLine.{card, fields};
-ghost use Rattle.read_first_line.specs.State.{toCome, Stepped, put, Lent};
-ghost use Rattle.read_line.specs.Lines.{rowFields, inState, readLine};
+ghost use Rattle.read_first_line.specs.State.{toCome, Advanced, put, Lent};
+ghost use Rattle.read_line.specs.Lines.{laterFields, inState, readLine};
 ghost use Rattle.read_line.specs.State.{Settled, FieldsNext};
 
 // The parts of this width that take lines: all `count` of them, or none where they have no fields.
@@ -31,7 +31,7 @@ fn parts(count: usize, width: Words) -> usize
 }
 
 // Where the present part is used up, the next one that has fields.
-pub fn settled(p: Plan) -> Plan
+pub fn settled(p: ToCome) -> ToCome
     ensures { λ r. ⌜ (toCome r ≡ toCome p) × Settled r ⌝ }
 {
     let jpar = p.jpar.0;
@@ -43,7 +43,7 @@ pub fn settled(p: Plan) -> Plan
         let others = singles - 1;
         let mpar = p.mpar.0;
         let cards = p.cards.0;
-        return Plan {
+        return ToCome {
             cards: Lines(cards),
             left: Words(jpar),
             singles: others,
@@ -56,7 +56,7 @@ pub fn settled(p: Plan) -> Plan
 }
 
 // The same where no 1-D part has fields.
-fn next_row(p: Plan) -> Plan
+fn next_row(p: ToCome) -> ToCome
     requires { ⌜ (p .left .0 ≡ 0) × (times (p .singles) (part (p .jpar .0)) ≡ []) ⌝ }
     ensures { λ r. ⌜ (toCome r ≡ toCome p) × Settled r ⌝ }
 {
@@ -65,7 +65,7 @@ fn next_row(p: Plan) -> Plan
     if 0 < rows {
         let others = rows - 1;
         let cards = p.cards.0;
-        return Plan {
+        return ToCome {
             cards: Lines(cards),
             left: Words(mpar),
             singles: 0,
@@ -96,26 +96,26 @@ fn put_card(line: &[u8], block: &mut [u8], held: Words)
 }
 
 // A card.
-fn card_line(p: Plan, num: Lines, held: Words, line: &[u8], block: &mut [u8]) -> Step
+fn card_line(p: ToCome, num: Lines, held: Words, line: &[u8], block: &mut [u8]) -> Advance
     requires { ⌜ (0 < p .cards .0) × (held .0 ≤ mostRecordWords) ⌝ }
-    ensures { λ r. ⌜ Stepped (held .0) (now (block .entry)) (inState (num .0) (held .0) (toCome p) (now (line .entry))) (now (block .exit)) r ⌝ }
+    ensures { λ r. ⌜ Advanced (held .0) (now (block .entry)) (inState (num .0) (held .0) (toCome p) (now (line .entry))) (now (block .exit)) r ⌝ }
 {
     let behind = held.0 + 40;
     let rest = one_card_less(p);
     if let Tested::Flawed(f) = read_columns::blank_after(line, num, Bytes(80)) {
-        return Step::Refused(f);
+        return Advance::Refused(f);
     }
     put_card(line, block, held);
-    Step::Next(rest, Words(behind))
+    Advance::Next(rest, Words(behind))
 }
 
 // The plan with these cards and these fields of the present part to come.
-fn with_left(p: Plan, cards: Lines, left: Words) -> Plan
+fn with_left(p: ToCome, cards: Lines, left: Words) -> ToCome
     ensures { λ r. ⌜ r ≡ record { cards = cards; left = left; singles = p .singles; jpar = p .jpar; rows = p .rows; mpar = p .mpar } ⌝ }
 {
     let jpar = p.jpar.0;
     let mpar = p.mpar.0;
-    Plan {
+    ToCome {
         cards,
         left,
         singles: p.singles,
@@ -126,7 +126,7 @@ fn with_left(p: Plan, cards: Lines, left: Words) -> Plan
 }
 
 // What is to come after a card.
-fn one_card_less(p: Plan) -> Plan
+fn one_card_less(p: ToCome) -> ToCome
     requires { ⌜ 0 < p .cards .0 ⌝ }
     ensures { λ r. ⌜ toCome p ≡ card ∷ toCome r ⌝ }
 {
@@ -136,9 +136,9 @@ fn one_card_less(p: Plan) -> Plan
 }
 
 // The fields of a later line of a Data record, and nothing behind them.
-fn row_fields(num: Lines, count: Words, line: &[u8], row: &mut [u16]) -> Tested
+fn later_fields(num: Lines, count: Words, line: &[u8], row: &mut [u16]) -> Tested
     requires { ⌜ (count .0 ≤ 20) × (length (now row) ≡ 20) ⌝ }
-    ensures { λ r. ⌜ testedOf (take (count .0) (now (row .exit))) r ≡ rowFields (num .0) (now (line .entry)) (count .0) ⌝ }
+    ensures { λ r. ⌜ testedOf (take (count .0) (now (row .exit))) r ≡ laterFields (num .0) (now (line .entry)) (count .0) ⌝ }
 {
     let read = read_columns::read_numbers(line, num, Words(0), count, row);
     if let Tested::Flawed(_) = read {
@@ -149,30 +149,30 @@ fn row_fields(num: Lines, count: Words, line: &[u8], row: &mut [u16]) -> Tested
 
 // A later line of a Data record.
 fn fields_line(
-    p: Plan,
+    p: ToCome,
     num: Lines,
     held: Words,
     line: &[u8],
     row: &mut [u16],
     block: &mut [u8],
-) -> Step
+) -> Advance
     requires { ⌜ FieldsNext p × Lent (now row) (held .0) ⌝ }
-    ensures { λ r. ⌜ Stepped (held .0) (now (block .entry)) (inState (num .0) (held .0) (toCome p) (now (line .entry))) (now (block .exit)) r ⌝ }
+    ensures { λ r. ⌜ Advanced (held .0) (now (block .entry)) (inState (num .0) (held .0) (toCome p) (now (line .entry))) (now (block .exit)) r ⌝ }
 {
     let left = p.left.0;
     let count = line_plan::on_line(Words(left));
     let first = held.0 + 1;
     let behind = held.0 + count.0;
     let rest = one_line_less(p, count);
-    if let Tested::Flawed(f) = row_fields(num, count, line, row) {
-        return Step::Refused(f);
+    if let Tested::Flawed(f) = later_fields(num, count, line, row) {
+        return Advance::Refused(f);
     }
     read_store::store_words(row, Words(0), count, block, Words(first));
-    Step::Next(rest, Words(behind))
+    Advance::Next(rest, Words(behind))
 }
 
 // What is to come after a line of the present part.
-fn one_line_less(p: Plan, count: Words) -> Plan
+fn one_line_less(p: ToCome, count: Words) -> ToCome
     requires { ⌜ FieldsNext p × (count .0 ≡ min (p .left .0) 20) ⌝ }
     ensures { λ r. ⌜ toCome p ≡ fields (count .0) ∷ toCome r ⌝ }
 {
@@ -181,20 +181,34 @@ fn one_line_less(p: Plan, count: Words) -> Plan
 }
 
 // A line where a record may begin: a blank one, or a record's first.
-fn between(p: Plan, num: Lines, held: Words, line: &[u8], row: &mut [u16], block: &mut [u8]) -> Step
+fn between(
+    p: ToCome,
+    num: Lines,
+    held: Words,
+    line: &[u8],
+    row: &mut [u16],
+    block: &mut [u8],
+) -> Advance
     requires { ⌜ (toCome p ≡ []) × Lent (now row) (held .0) ⌝ }
-    ensures { λ r. ⌜ Stepped (held .0) (now (block .entry)) (inState (num .0) (held .0) [] (now (line .entry))) (now (block .exit)) r ⌝ }
+    ensures { λ r. ⌜ Advanced (held .0) (now (block .entry)) (inState (num .0) (held .0) [] (now (line .entry))) (now (block .exit)) r ⌝ }
 {
     if read_columns::blank_line(line) {
-        return Step::Next(p, held);
+        return Advance::Next(p, held);
     }
     read_first_line::first_line(num, held, line, row, block)
 }
 
 // Any line that row 20 accepts.
-fn by_plan(p: Plan, num: Lines, held: Words, line: &[u8], row: &mut [u16], block: &mut [u8]) -> Step
+fn in_state(
+    p: ToCome,
+    num: Lines,
+    held: Words,
+    line: &[u8],
+    row: &mut [u16],
+    block: &mut [u8],
+) -> Advance
     requires { ⌜ Lent (now row) (held .0) ⌝ }
-    ensures { λ r. ⌜ Stepped (held .0) (now (block .entry)) (inState (num .0) (held .0) (toCome p) (now (line .entry))) (now (block .exit)) r ⌝ }
+    ensures { λ r. ⌜ Advanced (held .0) (now (block .entry)) (inState (num .0) (held .0) (toCome p) (now (line .entry))) (now (block .exit)) r ⌝ }
 {
     let q = settled(p);
     if 0 < q.cards.0 {
@@ -208,21 +222,21 @@ fn by_plan(p: Plan, num: Lines, held: Words, line: &[u8], row: &mut [u16], block
 
 // Any line, which begins with `plain` plain bytes.
 pub fn read_line(
-    plan: Plan,
+    plan: ToCome,
     num: Lines,
     held: Words,
     line: &[u8],
     plain: Bytes,
     row: &mut [u16],
     block: &mut [u8],
-) -> Step
+) -> Advance
     requires { ⌜ Lent (now row) (held .0) × (plain .0 ≡ plainIn (now line)) ⌝ }
-    ensures { λ r. ⌜ Stepped (held .0) (now (block .entry)) (readLine (num .0) (held .0) (toCome plan) (now (line .entry))) (now (block .exit)) r ⌝ }
+    ensures { λ r. ⌜ Advanced (held .0) (now (block .entry)) (readLine (num .0) (held .0) (toCome plan) (now (line .entry))) (now (block .exit)) r ⌝ }
 {
     let right = read_columns::plain_to(line, plain).0;
     if right < line.len() {
         let column = right + 1;
-        return Step::Refused(Flaw::Byte(num, Bytes(column)));
+        return Advance::Refused(Flaw::Byte(num, Bytes(column)));
     }
-    by_plan(plan, num, held, line, row, block)
+    in_state(plan, num, held, line, row, block)
 }

@@ -19,6 +19,6 @@ module _ (num held : ℕ) (b : List ℕ) {here : List Shape} where
   unfolding atEnd
   no-record e z = rw e (simp (eq-eqb held 0 z))
 
-  pub all-read : here ≡ [] → (held ≡ 0 → ⊥) → passed (record { words = held; block = b }) ≡ stored held b (atEnd num held here)
+  pub all-read : here ≡ [] → (held ≡ 0 → ⊥) → passed (record { held = held; block = b }) ≡ stored held b (atEnd num held here)
   unfolding atEnd bytesOf
-  all-read e z = rw e (simp (ne-eqb held 0 z) (ap (λ n. passed (record { words = n; block = b })) (sym (add-zero held))))
+  all-read e z = rw e (simp (ne-eqb held 0 z) (ap (λ n. passed (record { held = n; block = b })) (sym (add-zero held))))

@@ -21,7 +21,7 @@ use Rattle.line_plan.proofs.Plans.{fieldsIn, part-turn, fieldsIn-plan}
 use Rattle.read_columns.specs.Columns.{plainLine, blankAfter, blankLine, columnOf, fieldNumbers, zeroFields}
 use Rattle.read_line.proofs.Later.{card-size}
 use Rattle.read_first_line.specs.FirstLine.{Shape, card, fields, Read, gives, Head, cards, counts, countsIn, catalogueFields, headerFields, countFields, prologueFields, dataFields, kindFields, firstFields, cardsRoom, dataRoom, headLine, firstLine}
-use Rattle.read_line.specs.Lines.{rowFields, inState, readLine}
+use Rattle.read_line.specs.Lines.{laterFields, inState, readLine}
 use Rattle.read_text.specs.Spelled.{Readable, Blanks, SpellsAll, SpellsZero, LineSpells}
 use Rattle.units.proofs.Told.{Known, then-known, known-as}
 use Rattle.read_text.proofs.Told.{told}
@@ -294,8 +294,8 @@ module _ (num : ℕ) (hn : num < 2 ^ 24) where
     unfolding firstLine
     first-known e = then-known TextRow (HeadRead l) (Opens held l) (firstFields num l) _ (first-fields-known l e) (λ h r. head-known h r)
 
-    row-known : Readable l → (n : ℕ) → n ≤ mostRecordWords → Known TextRow (LineSpells (fields n) l) (rowFields num l n)
-    unfolding rowFields
+    row-known : Readable l → (n : ℕ) → n ≤ mostRecordWords → Known TextRow (LineSpells (fields n) l) (laterFields num l n)
+    unfolding laterFields
     row-known e n h =
         then-known TextRow (WordsRead l 0 n) (LineSpells (fields n) l) (fieldNumbers num l 0 n) _ (numbers-known num hn l 0 n (omega arith))
         (λ ws r. then-known TextRow (λ _. Blanks (drop (6 * n) l)) (LineSpells (fields n) l) (blankAfter num l (6 * n)) _ (blank-known num hn l (6 * n) e (omega arith))
@@ -306,7 +306,7 @@ module _ (num : ℕ) (hn : num < 2 ^ 24) where
     state-known (card ∷ rest) room e =
         then-known TextRow (λ _. Blanks (drop 80 l)) (Given held (card ∷ rest) l) (blankAfter num l 80) _ (blank-known num hn l 80 e (omega arith)) (λ _ b. (refl, (refl, b)))
     state-known (fields n ∷ rest) room e =
-        then-known TextRow (LineSpells (fields n) l) (Given held (fields n ∷ rest) l) (rowFields num l n) _ (row-known e n (omega arith)) (λ ws r. (refl, r))
+        then-known TextRow (LineSpells (fields n) l) (Given held (fields n ∷ rest) l) (laterFields num l n) _ (row-known e n (omega arith)) (λ ws r. (refl, r))
     state-known [] room e =
         by-test (Known TextRow (BetweenRecords held l)) (blankLine l) (gives [] []) (firstLine num held l) (λ t. skipped (all-blank l (omega (arith, leb-true (length l) _ t))) refl refl)
         (λ _. known-as TextRow (Opens held l) (BetweenRecords held l) (firstLine num held l) (first-known e) (λ s o. opens o))

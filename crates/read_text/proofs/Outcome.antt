@@ -57,8 +57,8 @@ words-counted t b b′ r e = by r (readText t) e
   where
     by : (c : Content) (v : Verdict (List ℕ)) → storedOf b′ c ≡ stored 0 b v → contentOf c ≡ onward v (λ ws. passed (length ws))
     by (RecordWords n) (passed ws) same =
-        let k : _≡_ {A = Stored} (record { words = n .0; block = b′ }) (record { words = 0 + length ws; block = put 0 b ws }) = cc in
-        ap (λ m. passed m) (ap (λ (x : Stored). x .words) k ∙ zero-add (length ws))
+        let k : _≡_ {A = Stored} (record { held = n .0; block = b′ }) (record { held = 0 + length ws; block = put 0 b ws }) = cc in
+        ap (λ m. passed m) (ap (λ (x : Stored). x .held) k ∙ zero-add (length ws))
     by (RecordWords n) (refused r) same = absurd (never-passed (sym same))
     by (Flawed f) (passed ws) same = absurd (never-passed same)
     by (Flawed f) (refused r) same = let k : flawOf f ≡ r = cc in ap (λ x. refused x) k
@@ -71,7 +71,7 @@ not-long t n a = ltb-false 65536 (length t) (else-passed (ltb 65536 (length t)) 
 -- the words that are put behind the length word
 records-put : (t b b′ : List ℕ) (n : ℕ) (r : Content) (a : HasWords t n) → storedOf b′ r ≡ stored 0 b (readText t) → b′ ≡ put 0 b (a .records)
 records-put t b b′ n (RecordWords m) a e =
-    let k : _≡_ {A = Stored} (record { words = m .0; block = b′ }) (record { words = 0 + length (a .records); block = put 0 b (a .records) }) = let s : storedOf b′ (RecordWords m) ≡ stored 0 b (passed (a .records)) = rw (a .is) at e in cc in
+    let k : _≡_ {A = Stored} (record { held = m .0; block = b′ }) (record { held = 0 + length (a .records); block = put 0 b (a .records) }) = let s : storedOf b′ (RecordWords m) ≡ stored 0 b (passed (a .records)) = rw (a .is) at e in cc in
     ap (λ (x : Stored). x .block) k
 records-put t b b′ n (Flawed f) a e = let s : storedOf b′ (Flawed f) ≡ stored 0 b (passed (a .records)) = rw (a .is) at e in absurd (never-passed s)
 

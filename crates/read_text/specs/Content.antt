@@ -13,16 +13,16 @@ use Rattle.read_text.specs.declared.Content.the-variants.{RecordWords, F
 
 -- the record words of a text, and the block as it is then
 pub record Stored : Type 0 where
-  pub words : ℕ
+  pub held : ℕ
   pub block : List ℕ
 
 -- after the lines that give these words
 abbrev pub stored : ℕ → List ℕ → Verdict (List ℕ) → Verdict Stored
-stored held block v = onward v (λ ws. passed (record { words = held + length ws; block = put held block ws }))
+stored held block v = onward v (λ ws. passed (record { held = held + length ws; block = put held block ws }))
 
 -- what is found, and the block as it is then
 abbrev pub storedOf : List ℕ → Content → Verdict Stored
-storedOf block (RecordWords n) = passed (record { words = n .0; block = block })
+storedOf block (RecordWords n) = passed (record { held = n .0; block = block })
 storedOf block (Flawed f) = refused (flawOf f)
 
 -- what is told at the end of the text, whatever block was written

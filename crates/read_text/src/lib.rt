@@ -1,7 +1,7 @@
 // Lines to block. The same loop judges and writes: into a block of no bytes nothing is written.
 use read_columns::Flaw;
-use read_first_line::Plan;
-use read_first_line::Step;
+use read_first_line::Advance;
+use read_first_line::ToCome;
 use units::Answer;
 use units::Bytes;
 use units::Lines;
@@ -26,7 +26,7 @@ pub enum Content {
 }
 
 // At the end of the text; `num` is one more than its last line.
-fn at_end(plan: Plan, num: Lines, held: Words) -> Content
+fn at_end(plan: ToCome, num: Lines, held: Words) -> Content
     ensures { λ r. ⌜ Ended (num .0) (held .0) (toCome plan) r ⌝ }
 {
     let p = read_line::settled(plan);
@@ -66,8 +66,8 @@ fn read_lines(text: &[u8], block: &mut [u8]) -> Content
             &mut row,
             block,
         ) {
-            Step::Refused(f) => return Content::Flawed(f),
-            Step::Next(p, n) => {
+            Advance::Refused(f) => return Content::Flawed(f),
+            Advance::Next(p, n) => {
                 plan = p;
                 held = n;
                 num += 1;
