@@ -10,7 +10,7 @@ use lib.Dec.{ltb, eqb}
 use lib.ListN.{length, getD, take, drop, set, replicate, length-append, length-take, length-drop, length-replicate}
 use lib.Seq.{sets, sets-eq, drop-length, set-getD, getD-set-other, take-set-le, take-set-lt, drop-set-lt, drop-set-add, length-take-le}
 use Rattle.units.specs.Choice.{if_then_else_}
-use Rattle.words.specs.Words.{word, joined, All, Below}
+use Rattle.words.specs.Words.{word, joined, All, Below, mostRecordWords}
 use Rattle.words.proofs.Lists.{all-append, all-replicate}
 use Rattle.words.proofs.Laws.{length-bytesOf}
 use Rattle.words.proofs.Stores.{sets-left, sets-right}
@@ -99,7 +99,7 @@ reached r h kind l j m n =
     let z = record-sized r h in
     let e = ap (λ k. eqb k 1002) kind in
     let d = is-data r h kind in
-    let k : length r ≡ 7998 = d .sum ∙ rw (l, j, m, n) refl in
+    let k : length r ≡ mostRecordWords = d .sum ∙ rw (l, j, m, n) refl in
     let c : lineCount r ≡ 7983 = data-count r e ∙ rw (l, j, m, n) refl in
     omega (arith, length-append (ended (linesOf r)) [], z .bytes, data-size r e)
 
@@ -112,7 +112,7 @@ Word w = w < 65536
 
 values-ok : (vs : List ℕ) → length vs ≡ 7982 → Below 65536 vs → RecordOk (with-values vs)
 values-ok vs h b =
-    let l : length (with-values vs) ≡ 7998 = omega arith in
+    let l : length (with-values vs) ≡ mostRecordWords = omega arith in
     record {
       total = sym l;
       kind = dataRecord refl (record {
@@ -130,7 +130,7 @@ longest-text : length (textOf (longest ∷ [])) ≡ 55971
 unfolding longest
 longest-text = reached (with-values (replicate 7982 0)) longest-ok refl refl refl refl refl
 
-longest-long : length longest ≡ 7998
+longest-long : length longest ≡ mostRecordWords
 unfolding longest
 longest-long = omega (arith, length-replicate {A = ℕ} 7982 0)
 

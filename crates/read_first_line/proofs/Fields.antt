@@ -15,10 +15,10 @@ use Rattle.read_columns.specs.declared.Tested.{Tested}
 use Rattle.read_columns.specs.declared.Tested.the-variants.{Good, Flawed}
 use Rattle.read_columns.specs.Cases.{testedOf}
 use Rattle.read_columns.specs.Columns.{fieldNumbers, zeroFields, blankAfter}
-use Rattle.read_first_line.specs.declared.Advance.{Advance}
-use Rattle.read_first_line.specs.declared.Advance.the-variants.{Refused}
+use Rattle.read_first_line.specs.declared.Move.{Move}
+use Rattle.read_first_line.specs.declared.Move.the-variants.{Refused}
 use Rattle.read_first_line.specs.FirstLine.{Head, cards, counts, countsIn, countFields, catalogueFields, headerFields, prologueFields, dataFields, kindFields, firstFields, headLine, firstLine}
-use Rattle.read_first_line.specs.State.{headIn, Advanced}
+use Rattle.read_first_line.specs.State.{headIn, Moved}
 use Rattle.read_first_line.proofs.Steps.{said-by, flaw-stays, good-passes, checked-on, flaw-read, good-read, flaw-ends, good-goes}
 use Rattle.read_first_line.proofs.Fronts.{least-take, lprol-counted, first-least, header-kept, data-kept}
 
@@ -134,23 +134,23 @@ module _ (num : ℕ) (l : List ℕ) (t : Tested) where
     first-goes e said = good-read [] (kindFields num l) (fieldNumbers num l 0 12) (take 12 row) e read said
 
   module _ (held : ℕ) (row : List ℕ) (read : testedOf (headIn row) t ≡ firstFields num l) where
-    pub line-stops : {b b′ : List ℕ} {f : Flaw} → t ≡ Flawed f → Advanced held b (firstLine num held l) b′ (Refused f)
+    pub line-stops : {b b′ : List ℕ} {f : Flaw} → t ≡ Flawed f → Moved held b (firstLine num held l) b′ (Refused f)
     unfolding firstLine
     line-stops e = flaw-ends (firstFields num l) (headLine num held) (headIn row) e read
 
-    line-goes : {b b′ : List ℕ} (h : Head) {s : Advance} → t ≡ Good → headIn row ≡ h → Advanced held b (headLine num held h) b′ s → Advanced held b (firstLine num held l) b′ s
+    line-goes : {b b′ : List ℕ} (h : Head) {s : Move} → t ≡ Good → headIn row ≡ h → Moved held b (headLine num held h) b′ s → Moved held b (firstLine num held l) b′ s
     unfolding firstLine
     line-goes h e is s = good-goes (firstFields num l) (headLine num held) h e (ap (λ h. testedOf h t) (sym is) ∙ read) s
 
-    pub data-goes-on : {b b′ : List ℕ} {s : Advance} → t ≡ Good → getD row 1 0 ≡ 1101 → Advanced held b (headLine num held (counts (take (min (getD row 12 0) 20) row))) b′ s → Advanced held b (firstLine num held l) b′ s
+    pub data-goes-on : {b b′ : List ℕ} {s : Move} → t ≡ Good → getD row 1 0 ≡ 1101 → Moved held b (headLine num held (counts (take (min (getD row 12 0) 20) row))) b′ s → Moved held b (firstLine num held l) b′ s
     unfolding headIn
     data-goes-on e k = line-goes (counts (take (min (getD row 12 0) 20) row)) e (rw k)
 
-    pub header-goes-on : {b b′ : List ℕ} {s : Advance} → t ≡ Good → getD row 1 0 ≡ 3101 → Advanced held b (headLine num held (cards 3002 (take 15 row))) b′ s → Advanced held b (firstLine num held l) b′ s
+    pub header-goes-on : {b b′ : List ℕ} {s : Move} → t ≡ Good → getD row 1 0 ≡ 3101 → Moved held b (headLine num held (cards 3002 (take 15 row))) b′ s → Moved held b (firstLine num held l) b′ s
     unfolding headIn
     header-goes-on e k = line-goes (cards 3002 (take 15 row)) e (rw k)
 
-    pub catalogue-goes-on : {b b′ : List ℕ} {s : Advance} → t ≡ Good → (getD row 1 0 ≡ 1101 → ⊥) → (getD row 1 0 ≡ 3101 → ⊥) → Advanced held b (headLine num held (cards 2001 (take 12 row))) b′ s → Advanced held b (firstLine num held l) b′ s
+    pub catalogue-goes-on : {b b′ : List ℕ} {s : Move} → t ≡ Good → (getD row 1 0 ≡ 1101 → ⊥) → (getD row 1 0 ≡ 3101 → ⊥) → Moved held b (headLine num held (cards 2001 (take 12 row))) b′ s → Moved held b (firstLine num held l) b′ s
     unfolding headIn
     catalogue-goes-on e k m = line-goes (cards 2001 (take 12 row)) e (simp (ne-eqb _ _ k, ne-eqb _ _ m))
 

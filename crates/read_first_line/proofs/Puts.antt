@@ -1,4 +1,4 @@
--- The counts of a first line are tested, and its words put: what the step then says.
+-- The counts of a first line are tested, and its words put: what the move then says.
 use mathlib.Core.Path.{_≡_, sym, ap, ap₂, _∙_}
 use mathlib.Core.List.{List, _∷_, _++_, map}
 use Prim.Native.Nat.{ℕ, _+_, _-_, _*_, _≤_, _<_, min}
@@ -15,12 +15,12 @@ use Rattle.read_columns.specs.declared.Tested.{Tested}
 use Rattle.read_columns.specs.declared.Tested.the-variants.{Good, Flawed}
 use Rattle.read_columns.specs.Cases.{testedOf}
 use Rattle.line_plan.specs.Plan.{plan}
-use Rattle.read_first_line.specs.declared.ToCome.{ToCome}
-use Rattle.read_first_line.specs.declared.Advance.{Advance}
-use Rattle.read_first_line.specs.declared.Advance.the-variants.{Next, Refused}
+use Rattle.read_first_line.specs.declared.Rest.{Rest}
+use Rattle.read_first_line.specs.declared.Move.{Move}
+use Rattle.read_first_line.specs.declared.Move.the-variants.{Next, Refused}
 use Rattle.read_first_line.specs.FirstLine.{card, fields, cards, counts, cardsRoom, dataRoom, cardsGiven, dataGiven, headLine}
-use Rattle.read_first_line.specs.State.{toCome, put, Advanced, LentCards, LentData, CardLines}
-use Rattle.read_first_line.proofs.Steps.{said-by, same-step, flaw-ends, good-goes, passed-stand}
+use Rattle.read_first_line.specs.State.{toCome, put, Moved, LentCards, LentData, CardLines}
+use Rattle.read_first_line.proofs.Steps.{said-by, same-move, flaw-ends, good-goes, passed-stand}
 use Rattle.read_first_line.proofs.Heads.{forty, head-length, cards-are, data-is, cards-most, room-most}
 
 -- ---- what a test that is passed tells
@@ -44,10 +44,10 @@ module _ (row : List ℕ) (num held : ℕ) (t : Tested) where
     first-said : testedOf tt t ≡ cardsRoom num held (getD (take used row) 0 0)
     first-said = said ∙ ap (cardsRoom num held) (sym (getD-take used row 0 0 (omega arith)))
 
-    pub cards-flaw : {b b′ : List ℕ} (kind : ℕ) {f : Flaw} → t ≡ Flawed f → Advanced held b (headLine num held (cards kind (take used row))) b′ (Refused f)
+    pub cards-flaw : {b b′ : List ℕ} (kind : ℕ) {f : Flaw} → t ≡ Flawed f → Moved held b (headLine num held (cards kind (take used row))) b′ (Refused f)
     cards-flaw kind e = flaw-ends _ _ tt e first-said
 
-    pub cards-good : {b b′ : List ℕ} (kind : ℕ) {s : Advance} → t ≡ Good → Advanced held b (cardsGiven kind (take used row)) b′ s → Advanced held b (headLine num held (cards kind (take used row))) b′ s
+    pub cards-good : {b b′ : List ℕ} (kind : ℕ) {s : Move} → t ≡ Good → Moved held b (cardsGiven kind (take used row)) b′ s → Moved held b (headLine num held (cards kind (take used row))) b′ s
     cards-good kind e s = good-goes _ _ tt e first-said s
 
   module _ (c : Counts) (l : LentData row held) (e : c ≡ countsOf row) (said : testedOf tt t ≡ dataRoom num held (getD row 0 0) c) where
@@ -57,29 +57,29 @@ module _ (row : List ℕ) (num held : ℕ) (t : Tested) where
         let low : 16 ≤ used = omega (arith, l .lprol) in
         said ∙ ap₂ (dataRoom num held) (sym (getD-take used row 0 0 (omega arith))) (e ∙ sym (counts-take used row low))
 
-    pub data-flaw : {b b′ : List ℕ} {f : Flaw} → t ≡ Flawed f → Advanced held b (headLine num held (counts (take (min (getD row 12 0) 20) row))) b′ (Refused f)
+    pub data-flaw : {b b′ : List ℕ} {f : Flaw} → t ≡ Flawed f → Moved held b (headLine num held (counts (take (min (getD row 12 0) 20) row))) b′ (Refused f)
     data-flaw e = flaw-ends _ _ tt e counts-said
 
-    pub data-good : {b b′ : List ℕ} {s : Advance} → t ≡ Good → Advanced held b (dataGiven (take (min (getD row 12 0) 20) row)) b′ s → Advanced held b (headLine num held (counts (take (min (getD row 12 0) 20) row))) b′ s
+    pub data-good : {b b′ : List ℕ} {s : Move} → t ≡ Good → Moved held b (dataGiven (take (min (getD row 12 0) 20) row)) b′ s → Moved held b (headLine num held (counts (take (min (getD row 12 0) 20) row))) b′ s
     data-good e s = good-goes _ _ tt e counts-said s
 
 -- ---- a line whose words are put
 
-module _ {row block block′ : List ℕ} {held : ℕ} {p : ToCome} {n : Words} where
+module _ {row block block′ : List ℕ} {held : ℕ} {p : Rest} {n : Words} where
   pub cards-put : {kind used lines total : ℕ} → LentCards row held used → lines ≡ getD row 0 0 → total ≡ 40 * lines
       → block′ ≡ put held block (total ∷ (kind ∷ slice 2 used row) ++ replicate (40 - used) 0) → toCome p ≡ replicate (lines - 1) card → n .0 ≡ held + 40
-      → Advanced held block (cardsGiven kind (take used row)) block′ (Next p n)
+      → Moved held block (cardsGiven kind (take used row)) block′ (Next p n)
   cards-put {kind} {used} {lines} {total} l e t at rest all =
       let fits : used ≤ length row = omega arith in
       let is : total ≡ 40 * getD row 0 0 = omega arith in
-      same-step _ _ (sym (cards-are row used fits kind (omega arith)))
+      same-move _ _ (sym (cards-are row used fits kind (omega arith)))
       (record { is = passed-stand (rest ∙ ap (λ k. replicate (k - 1) card) e) (omega (arith, forty row used fits (40 * getD row 0 0) kind (l .two) (l .most))) (at ∙ ap (λ t. put held block (t ∷ (kind ∷ slice 2 used row) ++ replicate (40 - used) 0)) is) })
 
   pub data-put : {c : Counts} {said used total : ℕ} → LentData row held → c ≡ countsOf row → said ≡ c .lprol → used ≡ min said 20 → total ≡ wordsNeeded c
       → block′ ≡ put held block (total ∷ (1002 ∷ slice 2 used row)) → toCome p ≡ map fields (drop 1 (plan c)) → n .0 ≡ held + used
-      → Advanced held block (dataGiven (take (min (getD row 12 0) 20) row)) block′ (Next p n)
+      → Moved held block (dataGiven (take (min (getD row 12 0) 20) row)) block′ (Next p n)
   data-put {c} {said} {used} {total} l e s u t at rest all =
       let is : min (getD row 12 0) 20 ≡ used = omega (arith, ap (λ c. c .lprol) e) in
       let fits : used ≤ length row = omega arith in
-      same-step _ _ (sym (ap (λ k. dataGiven (take k row)) is ∙ data-is row used fits (omega (arith, l .lprol))))
+      same-move _ _ (sym (ap (λ k. dataGiven (take k row)) is ∙ data-is row used fits (omega (arith, l .lprol))))
       (record { is = passed-stand (rest ∙ ap (λ c. map fields (drop 1 (plan c))) e) (omega (arith, head-length row used fits (wordsNeeded (countsOf row)) 1002 (omega (arith, l .lprol)))) (at ∙ ap (λ t. put held block (t ∷ (1002 ∷ slice 2 used row))) (t ∙ ap wordsNeeded e)) })

@@ -8,9 +8,9 @@ use Rattle.read_columns.specs.declared.Tested.{Tested}
 use Rattle.read_columns.specs.declared.Tested.the-variants.{Good, Flawed}
 use Rattle.read_columns.specs.Cases.{flawOf, testedOf}
 use Rattle.read_first_line.specs.FirstLine.{Shape, Read}
-use Rattle.read_first_line.specs.State.{Stand, Advanced}
-use Rattle.read_first_line.specs.declared.Advance.{Advance}
-use Rattle.read_first_line.specs.declared.Advance.the-variants.{Refused}
+use Rattle.read_first_line.specs.State.{Stand, Moved}
+use Rattle.read_first_line.specs.declared.Move.{Move}
+use Rattle.read_first_line.specs.declared.Move.the-variants.{Refused}
 
 -- what a check says, by what it returned
 pub said-by : {A : Type 0} (x : A) {r r′ : Tested} {v : Verdict A} → r ≡ r′ → testedOf x r ≡ v → testedOf x r′ ≡ v
@@ -45,22 +45,22 @@ module _ {B : Type 0} (head : List ℕ) (next : List ℕ → Verdict B) where
     pub good-read : {w : Verdict B} → r ≡ Good → testedOf row r ≡ onward v (λ ws. passed (head ++ ws)) → w ≡ next row → w ≡ onward v (λ ws. next (head ++ ws))
     good-read e said s = good-passes _ next row e said s ∙ read-then v
 
--- ---- a step
+-- ---- a move
 
 -- the first refusal stands, and ends the line
-pub stops : {held : ℕ} {b b′ : List ℕ} (v : Verdict Read) (f : Flaw) → refused (flawOf f) ≡ v → Advanced held b v b′ (Refused f)
+pub stops : {held : ℕ} {b b′ : List ℕ} (v : Verdict Read) (f : Flaw) → refused (flawOf f) ≡ v → Moved held b v b′ (Refused f)
 stops v f e = record { is = rw (sym e) }
 
--- a step for what is the same verdict
-pub same-step : {held : ℕ} {b b′ : List ℕ} {r : Advance} (v w : Verdict Read) → v ≡ w → Advanced held b v b′ r → Advanced held b w b′ r
-same-step v w e s = rw (sym e) s
+-- a move for what is the same verdict
+pub same-move : {held : ℕ} {b b′ : List ℕ} {r : Move} (v w : Verdict Read) → v ≡ w → Moved held b v b′ r → Moved held b w b′ r
+same-move v w e s = rw (sym e) s
 
 -- a check comes first: where it refuses, the line ends, and else it goes on
 module _ {A : Type 0} {held : ℕ} {b b′ : List ℕ} (v : Verdict A) (next : A → Verdict Read) (x : A) {r : Tested} where
-  pub flaw-ends : {f : Flaw} → r ≡ Flawed f → testedOf x r ≡ v → Advanced held b (onward v next) b′ (Refused f)
+  pub flaw-ends : {f : Flaw} → r ≡ Flawed f → testedOf x r ≡ v → Moved held b (onward v next) b′ (Refused f)
   flaw-ends {f} e said = stops (onward v next) f (flaw-stops v next x e said)
 
-  pub good-goes : {s : Advance} → r ≡ Good → testedOf x r ≡ v → Advanced held b (next x) b′ s → Advanced held b (onward v next) b′ s
+  pub good-goes : {s : Move} → r ≡ Good → testedOf x r ≡ v → Moved held b (next x) b′ s → Moved held b (onward v next) b′ s
   good-goes e said s = rw (sym (said-by x e said)) s
 
 -- where a line is accepted: what is to come, the words so far and the block

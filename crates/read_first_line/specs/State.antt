@@ -12,16 +12,16 @@ use Rattle.words.specs.Words.{word, bytesOf, mostRecordWords}
 use Rattle.line_plan.specs.Plan.{part, times}
 use Rattle.read_columns.specs.Cases.{flawOf}
 use Rattle.read_first_line.specs.FirstLine.{Shape, card, fields, Read, Head, cards, counts}
-use Rattle.read_first_line.specs.declared.ToCome.{ToCome}
-use Rattle.read_first_line.specs.declared.Advance.{Advance}
-use Rattle.read_first_line.specs.declared.Advance.the-variants.{Next, Refused}
+use Rattle.read_first_line.specs.declared.Rest.{Rest}
+use Rattle.read_first_line.specs.declared.Move.{Move}
+use Rattle.read_first_line.specs.declared.Move.the-variants.{Next, Refused}
 
 -- the Data lines to come: the rest of the present part, then the 1-D and the 2-D parts not begun
-unfoldable pub linesLeft : ToCome → List ℕ
+unfoldable pub linesLeft : Rest → List ℕ
 linesLeft p = part (p .left .0) ++ (times (p .singles) (part (p .jpar .0)) ++ times (p .rows) (part (p .mpar .0)))
 
 -- all lines to come
-unfoldable pub toCome : ToCome → List Shape
+unfoldable pub toCome : Rest → List Shape
 toCome p = replicate (p .cards .0) card ++ map fields (linesLeft p)
 
 -- the lines to come, the record words so far, and the block as it is then
@@ -38,13 +38,13 @@ put held block ws = sets block (bytesOfWords (held + 1)) (bytesOf ws)
 abbrev pub after : ℕ → List ℕ → Verdict Read → Verdict Stand
 after held block v = onward v (λ s. passed (record { rest = s .rest; held = held + length (s .words); block = put held block (s .words) }))
 
--- what an advance says, with the block as it is then
-abbrev pub standOf : List ℕ → Advance → Verdict Stand
+-- what a move says, with the block as it is then
+abbrev pub standOf : List ℕ → Move → Verdict Stand
 standOf block (Next p held) = passed (record { rest = toCome p; held = held .0; block = block })
 standOf block (Refused f) = refused (flawOf f)
 
 -- what it promises: what is read of the line
-pub record Advanced (held : ℕ) (before : List ℕ) (v : Verdict Read) (now : List ℕ) (r : Advance) : Type 0 where
+pub record Moved (held : ℕ) (before : List ℕ) (v : Verdict Read) (now : List ℕ) (r : Move) : Type 0 where
   pub is : standOf now r ≡ after held before v
 
 -- what the reading of a line is lent: a row with a place for each of a line's 20 fields, and words held that leave their count in range

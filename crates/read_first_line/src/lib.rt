@@ -14,10 +14,10 @@ ghost use Rattle.counts.specs.Counts.{countsOf, wordsNeeded};
 ghost use Rattle.line_plan.specs.Plan.{plan};
 ghost use Rattle.read_columns.specs.Cases.{testedOf};
 ghost use Rattle.read_first_line.specs.FirstLine.{card, fields, cards, counts, countsIn, countFields, headerFields, prologueFields, dataFields, kindFields, firstFields, cardsRoom, dataRoom, cardsGiven, dataGiven, headLine, firstLine};
-ghost use Rattle.read_first_line.specs.State.{toCome, Advanced, put, Lent, LentCards, LentData, CardLines, headIn};
+ghost use Rattle.read_first_line.specs.State.{toCome, Moved, put, Lent, LentCards, LentData, CardLines, headIn};
 
 // What is to come of a record: cards; or fields of the present part, then `singles` 1-D parts and `rows` 2-D parts, codes and rows.
-pub struct ToCome {
+pub struct Rest {
     pub cards: Lines,
     pub left: Words,
     pub singles: usize,
@@ -27,16 +27,16 @@ pub struct ToCome {
 }
 
 // After a line: what is to come, and the record words so far; or why it is refused.
-pub enum Advance {
-    Next(ToCome, Words),
+pub enum Move {
+    Next(Rest, Words),
     Refused(Flaw),
 }
 
 // `cards` cards are to come.
-pub fn cards_only(cards: Lines) -> ToCome
+pub fn cards_only(cards: Lines) -> Rest
     ensures { λ r. ⌜ toCome r ≡ replicate (cards .0) card ⌝ }
 {
-    ToCome {
+    Rest {
         cards,
         left: Words(0),
         singles: 0,
@@ -199,15 +199,15 @@ fn cards_room(num: Lines, held: Words, stated: u16) -> Tested
 }
 
 // Puts the words of a Catalogue's or a Header's first line.
-fn put_cards(kind: u16, held: Words, used: Words, row: &[u16], block: &mut [u8]) -> Advance
+fn put_cards(kind: u16, held: Words, used: Words, row: &[u16], block: &mut [u8]) -> Move
     requires { ⌜ LentCards (now row) (held .0) (used .0) × CardLines (getD (now row) 0 0) ⌝ }
-    ensures { λ r. ⌜ Advanced (held .0) (now (block .entry)) (cardsGiven kind (take (used .0) (now (row .entry)))) (now (block .exit)) r ⌝ }
+    ensures { λ r. ⌜ Moved (held .0) (now (block .entry)) (cardsGiven kind (take (used .0) (now (row .entry)))) (now (block .exit)) r ⌝ }
 {
     let lines = units::lines_said(row[0]);
     let cards = lines.0 - 1;
     let behind = held.0 + 40;
     put_cards_head(units::words_of_cards(lines), kind, used, row, block, held);
-    Advance::Next(cards_only(Lines(cards)), Words(behind))
+    Move::Next(cards_only(Lines(cards)), Words(behind))
 }
 
 // A Catalogue or a Header, whose first `used` fields count.
@@ -218,12 +218,12 @@ fn cards_line(
     used: Words,
     row: &[u16],
     block: &mut [u8],
-) -> Advance
+) -> Move
     requires { ⌜ LentCards (now row) (held .0) (used .0) ⌝ }
-    ensures { λ r. ⌜ Advanced (held .0) (now (block .entry)) (headLine (num .0) (held .0) (cards kind (take (used .0) (now (row .entry))))) (now (block .exit)) r ⌝ }
+    ensures { λ r. ⌜ Moved (held .0) (now (block .entry)) (headLine (num .0) (held .0) (cards kind (take (used .0) (now (row .entry))))) (now (block .exit)) r ⌝ }
 {
     if let Tested::Flawed(f) = cards_room(num, held, row[0]) {
-        return Advance::Refused(f);
+        return Move::Refused(f);
     }
     put_cards(kind, held, used, row, block)
 }
@@ -245,13 +245,13 @@ fn data_room(num: Lines, held: Words, lines: u16, c: Counts) -> Tested
 }
 
 // What is to come of a Data record after the fields of its first line.
-fn behind_first(used: Words, c: Counts) -> ToCome
+fn behind_first(used: Words, c: Counts) -> Rest
     requires { ⌜ (used .0 ≡ min (c .lprol) 20) × (0 < c .lprol) ⌝ }
     ensures { λ r. ⌜ toCome r ≡ map fields (drop 1 (plan c)) ⌝ }
 {
     let left = c.lprol as usize - used.0;
     let rows = c.nrow as usize + 1;
-    ToCome {
+    Rest {
         cards: Lines(0),
         left: Words(left),
         singles: 2,
@@ -262,9 +262,9 @@ fn behind_first(used: Words, c: Counts) -> ToCome
 }
 
 // Puts the words of a Data record's first line.
-fn put_data(held: Words, row: &[u16], block: &mut [u8]) -> Advance
+fn put_data(held: Words, row: &[u16], block: &mut [u8]) -> Move
     requires { ⌜ LentData (now row) (held .0) × (wordsNeeded (countsOf (now row)) ≤ mostRecordWords) ⌝ }
-    ensures { λ r. ⌜ Advanced (held .0) (now (block .entry)) (dataGiven (take (min (getD (now (row .entry)) 12 0) 20) (now (row .entry)))) (now (block .exit)) r ⌝ }
+    ensures { λ r. ⌜ Moved (held .0) (now (block .entry)) (dataGiven (take (min (getD (now (row .entry)) 12 0) 20) (now (row .entry)))) (now (block .exit)) r ⌝ }
 {
     let c = row_counts(row);
     let used = line_plan::on_line(units::words_said(c.lprol));
@@ -277,33 +277,27 @@ fn put_data(held: Words, row: &[u16], block: &mut [u8]) -> Advance
         block,
         held,
     );
-    Advance::Next(behind_first(used, c), Words(behind))
+    Move::Next(behind_first(used, c), Words(behind))
 }
 
 // A Data record whose counts are in range.
-fn data_line(num: Lines, held: Words, row: &[u16], block: &mut [u8]) -> Advance
+fn data_line(num: Lines, held: Words, row: &[u16], block: &mut [u8]) -> Move
     requires { ⌜ LentData (now row) (held .0) ⌝ }
-    ensures { λ r. ⌜ Advanced (held .0) (now (block .entry)) (headLine (num .0) (held .0) (counts (take (min (getD (now (row .entry)) 12 0) 20) (now (row .entry))))) (now (block .exit)) r ⌝ }
+    ensures { λ r. ⌜ Moved (held .0) (now (block .entry)) (headLine (num .0) (held .0) (counts (take (min (getD (now (row .entry)) 12 0) 20) (now (row .entry))))) (now (block .exit)) r ⌝ }
 {
     if let Tested::Flawed(f) = data_room(num, held, row[0], row_counts(row)) {
-        return Advance::Refused(f);
+        return Move::Refused(f);
     }
     put_data(held, row, block)
 }
 
 // A record's first line: its fields, then its counts.
-pub fn first_line(
-    num: Lines,
-    held: Words,
-    line: &[u8],
-    row: &mut [u16],
-    block: &mut [u8],
-) -> Advance
+pub fn first_line(num: Lines, held: Words, line: &[u8], row: &mut [u16], block: &mut [u8]) -> Move
     requires { ⌜ Lent (now row) (held .0) ⌝ }
-    ensures { λ r. ⌜ Advanced (held .0) (now (block .entry)) (firstLine (num .0) (held .0) (now (line .entry))) (now (block .exit)) r ⌝ }
+    ensures { λ r. ⌜ Moved (held .0) (now (block .entry)) (firstLine (num .0) (held .0) (now (line .entry))) (now (block .exit)) r ⌝ }
 {
     if let Tested::Flawed(f) = first_fields(num, line, row) {
-        return Advance::Refused(f);
+        return Move::Refused(f);
     }
     let kind = row[1];
     if kind == 1101 {

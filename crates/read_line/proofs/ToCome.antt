@@ -5,7 +5,7 @@ use Prim.Native.Nat.{ℕ, zero, suc, _-_, _<_, min}
 use native.Mathlib.Omega.{arith}
 use lib.ListN.{replicate}
 use Rattle.line_plan.specs.Plan.{part, times}
-use Rattle.read_first_line.specs.declared.ToCome.{ToCome}
+use Rattle.read_first_line.specs.declared.Rest.{Rest}
 use Rattle.read_first_line.specs.FirstLine.{card, fields}
 use Rattle.read_first_line.specs.State.{linesLeft, toCome}
 use Rattle.read_first_line.proofs.Coming.{line-less}
@@ -39,17 +39,17 @@ pub times-zero : (n w : ℕ) → n ≡ 0 → times n (part w) ≡ []
 unfolding times
 times-zero n w e = rw e
 
-pub none-to-come : (p : ToCome) → p .cards .0 ≡ 0 → linesLeft p ≡ [] → toCome p ≡ []
+pub none-to-come : (p : Rest) → p .cards .0 ≡ 0 → linesLeft p ≡ [] → toCome p ≡ []
 unfolding toCome
 none-to-come p e f = ap₂ (λ n ls. replicate n card ++ map fields ls) e f
 
 -- a card to come, and the rest
-pub card-less : (p : ToCome) → 0 < p .cards .0 → toCome p ≡ card ∷ (replicate (p .cards .0 - 1) card ++ map fields (linesLeft p))
+pub card-less : (p : Rest) → 0 < p .cards .0 → toCome p ≡ card ∷ (replicate (p .cards .0 - 1) card ++ map fields (linesLeft p))
 unfolding toCome
 card-less p h = let e : p .cards .0 ≡ suc (p .cards .0 - 1) = omega arith in ap (λ n. replicate n card ++ map fields (linesLeft p)) e
 
 -- a line of fields to come, and the rest
-pub fields-less : (p : ToCome) → p .cards .0 ≡ 0 → 0 < p .left .0 →
+pub fields-less : (p : Rest) → p .cards .0 ≡ 0 → 0 < p .left .0 →
     let n = min (p .left .0) 20 in
     toCome p ≡ fields n ∷ map fields (part (p .left .0 - n) ++ (times (p .singles) (part (p .jpar .0)) ++ times (p .rows) (part (p .mpar .0))))
 unfolding toCome linesLeft

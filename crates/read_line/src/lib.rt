@@ -1,8 +1,8 @@
 // Reads a line of a text, by what is to come of a record, and puts its words into a block as far as that has room.
 use read_columns::Flaw;
 use read_columns::Tested;
-use read_first_line::Advance;
-use read_first_line::ToCome;
+use read_first_line::Move;
+use read_first_line::Rest;
 use units::Bytes;
 use units::Lines;
 use units::Words;
@@ -16,7 +16,7 @@ ghost use Rattle.line_plan.specs.Plan.{part, times};
 ghost use Rattle.field.specs.Reading.{columns};
 ghost use Rattle.read_columns.specs.Cases.{testedOf};
 ghost use Rattle.read_first_line.specs.FirstLine.{card, fields};
-ghost use Rattle.read_first_line.specs.State.{toCome, Advanced, put, Lent};
+ghost use Rattle.read_first_line.specs.State.{toCome, Moved, put, Lent};
 ghost use Rattle.read_line.specs.Lines.{laterFields, inState, readLine};
 ghost use Rattle.read_line.specs.State.{Settled, FieldsNext};
 
@@ -31,7 +31,7 @@ fn parts(count: usize, width: Words) -> usize
 }
 
 // Where the present part is used up, the next one that has fields.
-pub fn settled(p: ToCome) -> ToCome
+pub fn settled(p: Rest) -> Rest
     ensures { λ r. ⌜ (toCome r ≡ toCome p) × Settled r ⌝ }
 {
     let jpar = p.jpar.0;
@@ -43,7 +43,7 @@ pub fn settled(p: ToCome) -> ToCome
         let others = singles - 1;
         let mpar = p.mpar.0;
         let cards = p.cards.0;
-        return ToCome {
+        return Rest {
             cards: Lines(cards),
             left: Words(jpar),
             singles: others,
@@ -56,7 +56,7 @@ pub fn settled(p: ToCome) -> ToCome
 }
 
 // The same where no 1-D part has fields.
-fn next_row(p: ToCome) -> ToCome
+fn next_row(p: Rest) -> Rest
     requires { ⌜ (p .left .0 ≡ 0) × (times (p .singles) (part (p .jpar .0)) ≡ []) ⌝ }
     ensures { λ r. ⌜ (toCome r ≡ toCome p) × Settled r ⌝ }
 {
@@ -65,7 +65,7 @@ fn next_row(p: ToCome) -> ToCome
     if 0 < rows {
         let others = rows - 1;
         let cards = p.cards.0;
-        return ToCome {
+        return Rest {
             cards: Lines(cards),
             left: Words(mpar),
             singles: 0,
@@ -96,26 +96,28 @@ fn put_card(line: &[u8], block: &mut [u8], held: Words)
 }
 
 // A card.
-fn card_line(p: ToCome, num: Lines, held: Words, line: &[u8], block: &mut [u8]) -> Advance
+fn card_line(p: Rest, num: Lines, held: Words, line: &[u8], block: &mut [u8]) -> Move
     requires { ⌜ (0 < p .cards .0) × (held .0 ≤ mostRecordWords) ⌝ }
-    ensures { λ r. ⌜ Advanced (held .0) (now (block .entry)) (inState (num .0) (held .0) (toCome p) (now (line .entry))) (now (block .exit)) r ⌝ }
+    ensures { λ r. ⌜ Moved (held .0) (now (block .entry)) (inState (num .0) (held .0) (toCome p) (now (line .entry))) (now (block .exit)) r ⌝ }
 {
     let behind = held.0 + 40;
     let rest = one_card_less(p);
-    if let Tested::Flawed(f) = read_columns::blank_after(line, num, Bytes(80)) {
-        return Advance::Refused(f);
+    match read_columns::blank_after(line, num, Bytes(80)) {
+        Tested::Flawed(f) => Move::Refused(f),
+        Tested::Good => {
+            put_card(line, block, held);
+            Move::Next(rest, Words(behind))
+        }
     }
-    put_card(line, block, held);
-    Advance::Next(rest, Words(behind))
 }
 
-// The plan with these cards and these fields of the present part to come.
-fn with_left(p: ToCome, cards: Lines, left: Words) -> ToCome
+// What is to come, with these cards and these fields of the present part.
+fn with_left(p: Rest, cards: Lines, left: Words) -> Rest
     ensures { λ r. ⌜ r ≡ record { cards = cards; left = left; singles = p .singles; jpar = p .jpar; rows = p .rows; mpar = p .mpar } ⌝ }
 {
     let jpar = p.jpar.0;
     let mpar = p.mpar.0;
-    ToCome {
+    Rest {
         cards,
         left,
         singles: p.singles,
@@ -126,7 +128,7 @@ fn with_left(p: ToCome, cards: Lines, left: Words) -> ToCome
 }
 
 // What is to come after a card.
-fn one_card_less(p: ToCome) -> ToCome
+fn one_card_less(p: Rest) -> Rest
     requires { ⌜ 0 < p .cards .0 ⌝ }
     ensures { λ r. ⌜ toCome p ≡ card ∷ toCome r ⌝ }
 {
@@ -149,30 +151,32 @@ fn later_fields(num: Lines, count: Words, line: &[u8], row: &mut [u16]) -> Teste
 
 // A later line of a Data record.
 fn fields_line(
-    p: ToCome,
+    p: Rest,
     num: Lines,
     held: Words,
     line: &[u8],
     row: &mut [u16],
     block: &mut [u8],
-) -> Advance
+) -> Move
     requires { ⌜ FieldsNext p × Lent (now row) (held .0) ⌝ }
-    ensures { λ r. ⌜ Advanced (held .0) (now (block .entry)) (inState (num .0) (held .0) (toCome p) (now (line .entry))) (now (block .exit)) r ⌝ }
+    ensures { λ r. ⌜ Moved (held .0) (now (block .entry)) (inState (num .0) (held .0) (toCome p) (now (line .entry))) (now (block .exit)) r ⌝ }
 {
     let left = p.left.0;
     let count = line_plan::on_line(Words(left));
     let first = held.0 + 1;
     let behind = held.0 + count.0;
     let rest = one_line_less(p, count);
-    if let Tested::Flawed(f) = later_fields(num, count, line, row) {
-        return Advance::Refused(f);
+    match later_fields(num, count, line, row) {
+        Tested::Flawed(f) => Move::Refused(f),
+        Tested::Good => {
+            read_store::store_words(row, Words(0), count, block, Words(first));
+            Move::Next(rest, Words(behind))
+        }
     }
-    read_store::store_words(row, Words(0), count, block, Words(first));
-    Advance::Next(rest, Words(behind))
 }
 
 // What is to come after a line of the present part.
-fn one_line_less(p: ToCome, count: Words) -> ToCome
+fn one_line_less(p: Rest, count: Words) -> Rest
     requires { ⌜ FieldsNext p × (count .0 ≡ min (p .left .0) 20) ⌝ }
     ensures { λ r. ⌜ toCome p ≡ fields (count .0) ∷ toCome r ⌝ }
 {
@@ -181,34 +185,20 @@ fn one_line_less(p: ToCome, count: Words) -> ToCome
 }
 
 // A line where a record may begin: a blank one, or a record's first.
-fn between(
-    p: ToCome,
-    num: Lines,
-    held: Words,
-    line: &[u8],
-    row: &mut [u16],
-    block: &mut [u8],
-) -> Advance
+fn between(p: Rest, num: Lines, held: Words, line: &[u8], row: &mut [u16], block: &mut [u8]) -> Move
     requires { ⌜ (toCome p ≡ []) × Lent (now row) (held .0) ⌝ }
-    ensures { λ r. ⌜ Advanced (held .0) (now (block .entry)) (inState (num .0) (held .0) [] (now (line .entry))) (now (block .exit)) r ⌝ }
+    ensures { λ r. ⌜ Moved (held .0) (now (block .entry)) (inState (num .0) (held .0) [] (now (line .entry))) (now (block .exit)) r ⌝ }
 {
     if read_columns::blank_line(line) {
-        return Advance::Next(p, held);
+        return Move::Next(p, held);
     }
     read_first_line::first_line(num, held, line, row, block)
 }
 
 // Any line that row 20 accepts.
-fn in_state(
-    p: ToCome,
-    num: Lines,
-    held: Words,
-    line: &[u8],
-    row: &mut [u16],
-    block: &mut [u8],
-) -> Advance
+fn by_rest(p: Rest, num: Lines, held: Words, line: &[u8], row: &mut [u16], block: &mut [u8]) -> Move
     requires { ⌜ Lent (now row) (held .0) ⌝ }
-    ensures { λ r. ⌜ Advanced (held .0) (now (block .entry)) (inState (num .0) (held .0) (toCome p) (now (line .entry))) (now (block .exit)) r ⌝ }
+    ensures { λ r. ⌜ Moved (held .0) (now (block .entry)) (inState (num .0) (held .0) (toCome p) (now (line .entry))) (now (block .exit)) r ⌝ }
 {
     let q = settled(p);
     if 0 < q.cards.0 {
@@ -222,21 +212,21 @@ fn in_state(
 
 // Any line, which begins with `plain` plain bytes.
 pub fn read_line(
-    plan: ToCome,
+    rest: Rest,
     num: Lines,
     held: Words,
     line: &[u8],
     plain: Bytes,
     row: &mut [u16],
     block: &mut [u8],
-) -> Advance
+) -> Move
     requires { ⌜ Lent (now row) (held .0) × (plain .0 ≡ plainIn (now line)) ⌝ }
-    ensures { λ r. ⌜ Advanced (held .0) (now (block .entry)) (readLine (num .0) (held .0) (toCome plan) (now (line .entry))) (now (block .exit)) r ⌝ }
+    ensures { λ r. ⌜ Moved (held .0) (now (block .entry)) (readLine (num .0) (held .0) (toCome rest) (now (line .entry))) (now (block .exit)) r ⌝ }
 {
     let right = read_columns::plain_to(line, plain).0;
     if right < line.len() {
         let column = right + 1;
-        return Advance::Refused(Flaw::Byte(num, Bytes(column)));
+        return Move::Refused(Flaw::Byte(num, Bytes(column)));
     }
-    in_state(plan, num, held, line, row, block)
+    by_rest(rest, num, held, line, row, block)
 }

@@ -21,7 +21,7 @@ use Rattle.field.specs.declared.Number.the-variants.{Word, Bad}
 use Rattle.field.specs.declared.Scan.{Scan}
 use Rattle.field.specs.declared.Scan.the-variants.{Blank, Sign, Digits, Spoiled}
 use Rattle.field.specs.Reading.{finishOf, scanOf, readField, columns}
-use Rattle.units.specs.Units.{Line}
+use Rattle.units.specs.Units.{Line, columnsOfFields}
 use Rattle.read_columns.specs.Columns.{rightTo, plainLine, isBlank, blankTo, blankAfter, columnOf, wordIn, number, fieldNumbers, blankField, zeroField, zeroFields}
 use Rattle.read_text.specs.Spelled.{PlainByte, Readable, Blanks, Spells, SpellsAll, SpellsZero}
 use Rattle.units.proofs.Told.{Known, then-known, known-as}
@@ -149,7 +149,7 @@ module _ (num : ℕ) (hn : num < 2 ^ 24) (l : Line) where
       by j low high z zs true t = rw (eqb-true j k t) z
       by j low high z zs false t = zs j (omega (arith, eqb-false j k t)) (omega arith)
 
-  pub blank-known : (c : ℕ) → Readable l → c ≤ 48000 → Known TextRow (λ _. Blanks (drop c l)) (blankAfter num l c)
+  pub blank-known : (c : ℕ) → Readable l → c ≤ columnsOfFields mostWords → Known TextRow (λ _. Blanks (drop c l)) (blankAfter num l c)
   unfolding blankAfter
   blank-known c e h =
       known-as TextRow (λ _. length l ≤ blankTo c l) (λ _. Blanks (drop c l)) (rightTo 26 num l (blankTo c l))

@@ -13,9 +13,9 @@ use Rattle.read_first_line.specs.FirstLine.{Shape, Read}
 use Rattle.read_line.specs.Lines.{readLine, readLines}
 use Rattle.read_first_line.specs.State.{Stand, toCome, put, after, standOf}
 use Rattle.read_text.specs.Content.{stored}
-use Rattle.read_first_line.specs.declared.ToCome.{ToCome}
-use Rattle.read_first_line.specs.declared.Advance.{Advance}
-use Rattle.read_first_line.specs.declared.Advance.the-variants.{Next, Refused}
+use Rattle.read_first_line.specs.declared.Rest.{Rest}
+use Rattle.read_first_line.specs.declared.Move.{Move}
+use Rattle.read_first_line.specs.declared.Move.the-variants.{Next, Refused}
 use Rattle.read_cut.specs.declared.Cut.{Cut}
 use Rattle.read_cut.specs.Lines.{linesIn, CutAt}
 use Rattle.read_first_line.proofs.Heads.{put-append}
@@ -33,7 +33,7 @@ kept-both held b ws (refused r) = refl
 
 module _ (num held : ℕ) (rest : List Shape) (l : List ℕ) (ls : List (List ℕ)) (b b′ : List ℕ) where
   -- an accepted line
-  turn : (p : ToCome) (n : Words) → standOf b′ (Next p n) ≡ after held b (readLine num held rest l) →
+  turn : (p : Rest) (n : Words) → standOf b′ (Next p n) ≡ after held b (readLine num held rest l) →
       stored held b (readLines num held rest (l ∷ ls)) ≡ stored (n .0) b′ (readLines (num + 1) (n .0) (toCome p) ls)
   unfolding readLines
   turn p n e = let s : suc num ≡ num + 1 = omega arith in by (readLine num held rest l) e ∙ ap (λ k. stored (n .0) b′ (readLines k (n .0) (toCome p) ls)) s
@@ -58,7 +58,7 @@ module _ (num held : ℕ) (rest : List Shape) (l : List ℕ) (ls : List (List �
       by (refused r) e = cc
 
 -- and there is room for the lines to come, as before it
-room-next : (num held : ℕ) (rest : List Shape) (l b b′ : List ℕ) (p : ToCome) (n : Words) → num < 2 ^ 24 → RoomToCome held rest
+room-next : (num held : ℕ) (rest : List Shape) (l b b′ : List ℕ) (p : Rest) (n : Words) → num < 2 ^ 24 → RoomToCome held rest
     → standOf b′ (Next p n) ≡ after held b (readLine num held rest l) → RoomToCome (n .0) (toCome p)
 room-next num held rest l b b′ p n hn h e = by (readLine num held rest l) (line-known num hn held l rest h) e
   where
@@ -85,11 +85,11 @@ module _ {text b₀ b row : List ℕ} {rest : List Shape} {held num at : ℕ} (g
   same-cut : stored held b (readLines num held rest (line ∷ linesIn (drop (c .next .0) text))) ≡ stored 0 b₀ (readLines 1 0 [] (linesIn text))
   same-cut = ap (λ x. stored held b (readLines num held rest x)) (sym (cut .cut)) ∙ g .same
 
-  module _ (b′ : List ℕ) (s : Advance) (read : standOf b′ s ≡ after held b (readLine num held rest line)) where
+  module _ (b′ : List ℕ) (s : Move) (read : standOf b′ s ≡ after held b (readLine num held rest line)) where
     pub reading-refused : {f : Flaw} → s ≡ Refused f → refused (flawOf f) ≡ stored 0 b₀ (readLines 1 0 [] (linesIn text))
     reading-refused {f} is = sym (end num held rest line (linesIn (drop (c .next .0) text)) b b′ f (ap (standOf b′) (sym is) ∙ read)) ∙ same-cut
 
-    pub reading-on : {p : ToCome} {n : Words} {row′ : List ℕ} → s ≡ Next p n → length text ≤ 65536 → length b′ ≡ length b → length row′ ≡ length row
+    pub reading-on : {p : Rest} {n : Words} {row′ : List ℕ} → s ≡ Next p n → length text ≤ 65536 → length b′ ≡ length b → length row′ ≡ length row
         → Reading text b₀ b′ row′ (toCome p) (n .0) (num + 1) (c .next .0)
     reading-on {p} {n} is small kept-block kept-row =
         let e : standOf b′ (Next p n) ≡ after held b (readLine num held rest line) = ap (standOf b′) (sym is) ∙ read in

@@ -1,7 +1,7 @@
 // Lines to block. The same loop judges and writes: into a block of no bytes nothing is written.
 use read_columns::Flaw;
-use read_first_line::Advance;
-use read_first_line::ToCome;
+use read_first_line::Move;
+use read_first_line::Rest;
 use units::Answer;
 use units::Bytes;
 use units::Lines;
@@ -26,10 +26,10 @@ pub enum Content {
 }
 
 // At the end of the text; `num` is one more than its last line.
-fn at_end(plan: ToCome, num: Lines, held: Words) -> Content
-    ensures { λ r. ⌜ Ended (num .0) (held .0) (toCome plan) r ⌝ }
+fn at_end(rest: Rest, num: Lines, held: Words) -> Content
+    ensures { λ r. ⌜ Ended (num .0) (held .0) (toCome rest) r ⌝ }
 {
-    let p = read_line::settled(plan);
+    let p = read_line::settled(rest);
     if 0 < p.cards.0 {
         return Content::Flawed(Flaw::Ends(num));
     }
@@ -48,7 +48,7 @@ fn read_lines(text: &[u8], block: &mut [u8]) -> Content
     ensures { λ r. ⌜ storedOf (now (block .exit)) r ≡ stored 0 (now (block .entry)) (readLines 1 0 [] (linesIn (now (text .entry)))) ⌝ }
 {
     let mut row = [0u16; 20];
-    let mut plan = read_first_line::cards_only(Lines(0));
+    let mut rest = read_first_line::cards_only(Lines(0));
     let mut held = Words(0);
     let mut num = 1;
     let mut at = 0;
@@ -58,7 +58,7 @@ fn read_lines(text: &[u8], block: &mut [u8]) -> Content
         let next = cut.next.0;
         let plain = Bytes(cut.plain.0);
         match read_line::read_line(
-            plan,
+            rest,
             Lines(num),
             held,
             &text[at..end],
@@ -66,16 +66,16 @@ fn read_lines(text: &[u8], block: &mut [u8]) -> Content
             &mut row,
             block,
         ) {
-            Advance::Refused(f) => return Content::Flawed(f),
-            Advance::Next(p, n) => {
-                plan = p;
+            Move::Refused(f) => return Content::Flawed(f),
+            Move::Next(p, n) => {
+                rest = p;
                 held = n;
                 num += 1;
                 at = next;
             }
         }
     }
-    at_end(plan, Lines(num), held)
+    at_end(rest, Lines(num), held)
 }
 
 // What becomes of a text: the bytes of its block, its refusal, or a buffer that is too short for the bytes needed.

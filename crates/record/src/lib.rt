@@ -1,4 +1,4 @@
-// One record: its kind, its counts, what must be zero, its cards, and its lines.
+// One record: its kind, what must be zero, its cards, and its lines.
 use counts::Counts;
 use units::Answer;
 use units::Lines;

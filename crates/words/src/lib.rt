@@ -1,4 +1,4 @@
-// 16-bit words in bytes, high byte first, and their exclusive or.
+// 16-bit words in bytes, high byte first: read, put, sealed in a block; scans of them, and bytes put into a buffer.
 use units::Bytes;
 use units::Words;
 ghost use mathlib.Core.Path.{_≡_};

@@ -2,7 +2,7 @@ use mathlib.Core.Path.{refl, sym, _∙_}
 use native.Mathlib.Nat.{add-zero}
 use borrow.Author.Needs.{needs}
 use Rattle.words.specs.Words.{bytesOf}
-use Rattle.read_first_line.proofs.Steps.{same-step, passed-stand}
+use Rattle.read_first_line.proofs.Steps.{same-move, passed-stand}
 use Rattle.read_line.specs.Lines.{inState}
 use Rattle.read_line.proofs.between.Statement.{statement}
 use Rattle.read_line.proofs.between.Tie as tie
@@ -15,7 +15,7 @@ returns c = let b = c .before in let s = b .before .before .before .before in
 returns-2 : tie.Need-returns-2
 unfolding inState
 returns-2 c = let f = c .before .before .before .before in let e = f .before .before .before in
-    same-step _ _ (rw (sym (e .before .blank-line .ensures) ∙ e .if1 .left)) (f .first-line .ensures)
+    same-move _ _ (rw (sym (e .before .blank-line .ensures) ∙ e .if1 .left)) (f .first-line .ensures)
 
 pub between-spec : {M : Type 1} → statement M
 between-spec =

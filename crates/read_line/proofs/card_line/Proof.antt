@@ -7,7 +7,8 @@ pub card-line-spec : {M : Type 1} → statement M
 card-line-spec =
     tie.close
     (tie.spec
-    (λ c. search needs) (λ c κs. search needs) (λ c κs. search needs) (λ c. search needs)
+    (λ c. search needs) (λ c κs. search needs) (λ c κs. search needs) (λ c. search needs) (λ c. search needs)
+    (λ c κs. search needs)
     (λ c. search card-stops)
-    (λ c. search needs) (λ c κs. search needs) (λ c. search needs)
+    (λ c. search needs)
     (λ c. search card-goes))

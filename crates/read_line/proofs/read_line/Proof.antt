@@ -17,7 +17,7 @@ returns c = let p = c .before in
 returns-2 : tie.Need-returns-2
 unfolding readLine plainLine
 returns-2 c = let s = c .before .before .before .before in let p = s .before .before .before .before in
-    good-goes _ _ tt refl (right-to 20 _ (now (p .before .before .before .before .args .line)) _ (omega arith)) (s .in-state .ensures)
+    good-goes _ _ tt refl (right-to 20 _ (now (p .before .before .before .before .args .line)) _ (omega arith)) (s .by-rest .ensures)
 
 pub read-line-spec : {M : Type 1} → statement M
 read-line-spec =

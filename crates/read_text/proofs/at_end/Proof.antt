@@ -8,8 +8,8 @@ use borrow.Author.Needs.{needs}
 use Rattle.read_text.proofs.at_end.Statement.{statement}
 use Rattle.read_text.proofs.at_end.Tie as tie
 
--- behind both tests of the plan nothing is to come
-none-left : (c : tie.Else2) → let s = c .before .before .before .before in toCome (s .before .args .plan) ≡ []
+-- behind both tests nothing is to come
+none-left : (c : tie.Else2) → let s = c .before .before .before .before in toCome (s .before .args .rest) ≡ []
 none-left c = let s = c .before .before .before .before in
     sym (s .settled .ensures .0) ∙ none-to-come (s .settled .result) (omega (arith, c .before .before .if1 .left)) (s .settled .ensures .1 (omega (arith, c .if2 .left)))
 

@@ -16,10 +16,10 @@ use Rattle.read_text.proofs.read_lines.Statement.{statement}
 use Rattle.read_text.proofs.read_lines.Tie as tie
 
 abbrev Inv-loop : tie.InvT-loop
-Inv-loop text block₀ row₀ plan₀ held₀ num₀ at₀ block row plan held num at = Reading text block₀ block row (toCome plan) (held .0) num at
+Inv-loop text block₀ row₀ rest₀ held₀ num₀ at₀ block row rest held num at = Reading text block₀ block row (toCome rest) (held .0) num at
 
 abbrev μ-loop : tie.MeasureT-loop
-μ-loop text block₀ row₀ plan₀ held₀ num₀ at₀ block row plan held num at = length text - at
+μ-loop text block₀ row₀ rest₀ held₀ num₀ at₀ block row rest held num at = length text - at
 
 -- back from one place to another
 abbrev next-line-before-f : tie.After-f Inv-loop μ-loop → tie.After-next-line Inv-loop μ-loop
@@ -79,7 +79,7 @@ same-length-2 c = c .before .before .loop .inv .length-kept
 returns-2 : tie.Need-returns-2 Inv-loop μ-loop
 unfolding linesIn readLines
 returns-2 c = let l = c .before .before .loop in let t = now (c .before .before .before .before .before .before .args .text) in
-    c .at-end .ensures (l .block) ∙ ap (λ x. stored (l .held .0) (l .block) (readLines (l .num) (l .held .0) (toCome (l .plan)) (linesIn x))) (sym (drop-of-length-le t {i = l .at} (c .before .loop-test .left))) ∙ l .inv .same
+    c .at-end .ensures (l .block) ∙ ap (λ x. stored (l .held .0) (l .block) (readLines (l .num) (l .held .0) (toCome (l .rest)) (linesIn x))) (sym (drop-of-length-le t {i = l .at} (c .before .loop-test .left))) ∙ l .inv .same
 
 pub read-lines-spec : {M : Type 1} → statement M
 read-lines-spec =

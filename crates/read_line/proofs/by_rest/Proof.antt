@@ -1,10 +1,10 @@
 use Rattle.read_line.proofs.Later.{as-settled, none-settled, nothing-left}
 use borrow.Author.Needs.{needs}
-use Rattle.read_line.proofs.in_state.Statement.{statement}
-use Rattle.read_line.proofs.in_state.Tie as tie
+use Rattle.read_line.proofs.by_rest.Statement.{statement}
+use Rattle.read_line.proofs.by_rest.Tie as tie
 
-pub in-state-spec : {M : Type 1} → statement M
-in-state-spec =
+pub by-rest-spec : {M : Type 1} → statement M
+by-rest-spec =
     tie.close
     (tie.spec
     (λ c κs. search needs) (λ c κs. search needs) (λ c. search needs)
