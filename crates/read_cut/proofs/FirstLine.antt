@@ -1,5 +1,5 @@
 -- The first line of a text: its bytes stand before the first place at which a line end stands.
-use mathlib.Core.Path.{_≡_, refl, ap, _∙_}
+use mathlib.Core.Path.{_≡_, refl, ap, _∙_, sym}
 use mathlib.Core.Bool.{Bool, true, false, _&&_}
 use mathlib.Core.List.{List, [], _∷_}
 use Prim.Native.Nat.{ℕ, zero, suc, _+_, _-_, _≤_, _<_}
@@ -21,6 +21,10 @@ use Rattle.read_cut.specs.declared.Cut.{Cut}
 pub end-at : (t : List ℕ) (i : ℕ) → endLength (drop i t) ≡ (if eqb (getD t i 0) 10 then 1 else if eqb (getD t i 0) 13 && eqb (getD t (i + 1) 0) 10 then 2 else 0)
 unfolding endLength
 end-at t i = simp (getD-drop, add-zero)
+
+-- an LF there takes a byte
+pub lf-at : (t : List ℕ) (i : ℕ) {r : Bool} → r ≡ eqb (getD t i 0) 10 → r ≡ true → endLength (drop i t) ≡ 1
+lf-at t i e is = rw (end-at t i, sym e, is)
 
 -- a line end: the line has no more bytes
 at-end : (b : ℕ) (t : List ℕ) → 0 < endLength (b ∷ t) → linesIn (b ∷ t) ≡ [] ∷ linesIn (drop (endLength (b ∷ t)) (b ∷ t))

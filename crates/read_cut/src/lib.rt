@@ -61,14 +61,23 @@ fn end_length(text: &[u8], i: usize) -> usize
     0
 }
 
-// The line that begins at place `at`: its plain bytes end no line, so that its end is looked for behind them.
+// The line that begins at place `at`: its plain bytes end no line, so that its end is looked for behind them. Mostly an LF stands there.
 pub fn next_line(text: &[u8], at: Bytes) -> Cut
     requires { ⌜ at .0 < length (now text) ⌝ }
     ensures { λ r. ⌜ CutAt (now (text .entry)) (at .0) r ⌝ }
 {
     let first = at.0;
-    let mut i = plain_end(text, first);
-    let plain = i - first;
+    let from = plain_end(text, first);
+    let plain = from - first;
+    if is_lf(text, from) {
+        let next = from + 1;
+        return Cut {
+            end: Bytes(from),
+            next: Bytes(next),
+            plain: Bytes(plain),
+        };
+    }
+    let mut i = from;
     while i < text.len() {
         let size = end_length(text, i);
         if 0 < size {
