@@ -23,4 +23,4 @@ linesPrinted block = orRefusal (λ _. textOf (recordsOf block)) (judged block)
 
 -- the record words of the text, length word and checksum around them, as bytes
 abbrev pub blockPrinted : List ℕ → List ℕ
-blockPrinted text = orRefusal (λ ws. blockFrom ws) (readText text)
+blockPrinted text = orRefusal blockFrom (readText text)
