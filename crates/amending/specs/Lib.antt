@@ -1,3 +1,4 @@
 pub mod Amending
 pub mod Cases
 pub mod Between
+pub mod Promises

@@ -11,10 +11,9 @@ ghost use Rattle.units.specs.Answers.{answered, onward};
 ghost use Rattle.block.specs.Judging.{judged};
 ghost use Rattle.sheet.specs.Sheets.{version1, opened};
 ghost use Rattle.sheet.specs.Cases.{entryOf};
-ghost use Rattle.amending.specs.Amending as spec;
-ghost use Rattle.amending.specs.Amending.{buffers};
 ghost use Rattle.amending.specs.Between.{Ready};
 ghost use Rattle.amending.specs.Cases.{objectionOf, amendedOf};
+ghost use Rattle.amending.specs.Promises.{Amends, Undoes};
 
 // Why an amendment or its undoing is refused.
 pub enum Objection {
@@ -55,7 +54,7 @@ fn look_at_sheet(sheet: &[u8]) -> Amended
 // Amends a good block, where `count` amendments stand.
 fn amend_next(block: &mut [u8], sheet: &mut [u8], count: u16, e: Amendment) -> Amended
     requires { ⌜ Ready version1 (now block) (now sheet) count ⌝ }
-    ensures { λ r. ⌜ buffers (answered (amendedOf r)) (now (block .exit)) (now (sheet .exit)) ≡ spec.amend version1 (entryOf e) (now (block .entry)) (now (sheet .entry)) ⌝ }
+    ensures { λ r. ⌜ Amends (entryOf e) (now (block .entry)) (now (sheet .entry)) r (now (block .exit)) (now (sheet .exit)) ⌝ }
 {
     if sheet::LIMIT <= count {
         return Amended::Refused(Objection::Full);
@@ -71,7 +70,7 @@ fn amend_next(block: &mut [u8], sheet: &mut [u8], count: u16, e: Amendment) -> A
 
 // Amends a value: puts it into the block and an entry into the sheet, or changes nothing.
 pub fn amend(block: &mut [u8], sheet: &mut [u8], e: Amendment) -> Amended
-    ensures { λ r. ⌜ buffers (answered (amendedOf r)) (now (block .exit)) (now (sheet .exit)) ≡ spec.amend version1 (entryOf e) (now (block .entry)) (now (sheet .entry)) ⌝ }
+    ensures { λ r. ⌜ Amends (entryOf e) (now (block .entry)) (now (sheet .entry)) r (now (block .exit)) (now (sheet .exit)) ⌝ }
 {
     match look(block, sheet) {
         Amended::Refused(r) => Amended::Refused(r),
@@ -82,7 +81,7 @@ pub fn amend(block: &mut [u8], sheet: &mut [u8], e: Amendment) -> Amended
 // Undoes the last of `count` amendments of a good block.
 fn undo_last(block: &mut [u8], sheet: &mut [u8], count: u16) -> Amended
     requires { ⌜ Ready version1 (now block) (now sheet) count ⌝ }
-    ensures { λ r. ⌜ buffers (answered (amendedOf r)) (now (block .exit)) (now (sheet .exit)) ≡ spec.undo version1 (now (block .entry)) (now (sheet .entry)) ⌝ }
+    ensures { λ r. ⌜ Undoes (now (block .entry)) (now (sheet .entry)) r (now (block .exit)) (now (sheet .exit)) ⌝ }
 {
     if count == 0 {
         return Amended::Refused(Objection::Empty);
@@ -100,7 +99,7 @@ fn undo_last(block: &mut [u8], sheet: &mut [u8], count: u16) -> Amended
 
 // Undoes the last amendment: puts its old value back and clears its entry, or changes nothing.
 pub fn undo(block: &mut [u8], sheet: &mut [u8]) -> Amended
-    ensures { λ r. ⌜ buffers (answered (amendedOf r)) (now (block .exit)) (now (sheet .exit)) ≡ spec.undo version1 (now (block .entry)) (now (sheet .entry)) ⌝ }
+    ensures { λ r. ⌜ Undoes (now (block .entry)) (now (sheet .entry)) r (now (block .exit)) (now (sheet .exit)) ⌝ }
 {
     match look(block, sheet) {
         Amended::Refused(r) => Amended::Refused(r),

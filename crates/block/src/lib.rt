@@ -9,8 +9,9 @@ ghost use Prim.Native.Nat.{_<_, _≤_};
 ghost use lib.ListN.{length};
 ghost use Rattle.units.specs.Answers.{answered};
 ghost use Rattle.words.specs.Words.{wordsOf, mostWords};
-ghost use Rattle.block.specs.Judging.{wrongSize, walk, judgeWords, judged};
+ghost use Rattle.block.specs.Judging.{wrongSize, walk, judgeWords};
 ghost use Rattle.block.specs.Cases.{refusalOf, judgedOf};
+ghost use Rattle.block.specs.Promises.{Judges};
 
 // Why a block is refused: its frame, or one of its records.
 pub enum Refusal {
@@ -81,7 +82,7 @@ fn judge_words(block: &[u8]) -> Judged
 
 // Judges a block: whether it keeps the rules of the format, and how many records it has.
 pub fn judge(block: &[u8]) -> Judged
-    ensures { λ r. ⌜ judgedOf r ≡ judged (now (block .entry)) ⌝ }
+    ensures { λ r. ⌜ Judges (now (block .entry)) r ⌝ }
 {
     if wrong_size(Bytes(block.len())) {
         return Judged::Refused(Refusal::Size);

@@ -2,7 +2,8 @@
 use units::Words;
 ghost use mathlib.Core.Path.{_≡_};
 ghost use Rattle.words.specs.Words.{wordsOf, bytesOf};
-ghost use Rattle.block_steps.specs.Steps.{stepOf, recordAt, findOf};
+ghost use Rattle.block_steps.specs.Steps.{recordAt};
+ghost use Rattle.block_steps.specs.Promises.{Steps, Finds};
 
 // The next record, by the words of the block before it and its own; or no more.
 pub enum Place {
@@ -12,7 +13,7 @@ pub enum Place {
 
 // The record with `at` words of the block before it, or no more where none stands there.
 pub fn step(block: &[u8], at: Words) -> Place
-    ensures { λ r. ⌜ r ≡ stepOf (wordsOf (now (block .entry))) (at .0) ⌝ }
+    ensures { λ r. ⌜ Steps (now (block .entry)) (at .0) r ⌝ }
 {
     let place = at.0;
     let m = words::count(block).0;
@@ -43,7 +44,7 @@ pub fn record_at(block: &[u8], at: Words) -> &[u8]
 
 // Record `number` of the block, or no more where the block has fewer.
 pub fn find(block: &[u8], number: u16) -> Place
-    ensures { λ r. ⌜ r ≡ findOf (wordsOf (now (block .entry))) 1 number ⌝ }
+    ensures { λ r. ⌜ Finds (now (block .entry)) number r ⌝ }
 {
     if number == 0 {
         return Place::NoMore;

@@ -1,18 +1,12 @@
 // The calls for C, and nothing else: each returns its answer's four numbers as one.
 use sheet::Amendment;
-ghost use mathlib.Core.Path.{_≡_};
 ghost use mathlib.Core.List.{[], _∷_};
-ghost use Rattle.units.specs.Answers.{packedOf};
-ghost use Rattle.cedar.specs.Calls.{judgeAnswer, prefixAnswer, returned, converted, returnedBoth, amendedBoth};
-ghost use Rattle.write_lines.specs.Text.{toLines};
-ghost use Rattle.read_text.specs.Block.{toBlock};
-ghost use Rattle.sheet.specs.Sheets.{version1, started};
-ghost use Rattle.amending.specs.Amending.{amend, undo};
+ghost use Rattle.cedar.specs.Promises.{CedarJudges, CedarFindsPrefix, CedarWritesLines, CedarWritesBlock, CedarStarts, CedarAmends, CedarUndoes};
 
 // uint64_t cedar_judge(const uint8_t *block, size_t length);
 #[no_mangle]
 pub extern "C" fn cedar_judge(block: &[u8]) -> u64
-    ensures { λ r. ⌜ r ≡ packedOf (judgeAnswer (now (block .entry))) ⌝ }
+    ensures { λ r. ⌜ CedarJudges (now (block .entry)) r ⌝ }
 {
     let judged = block::judge(block);
     units::pack(block::numbers(judged))
@@ -21,7 +15,7 @@ pub extern "C" fn cedar_judge(block: &[u8]) -> u64
 // uint64_t cedar_prefix(uint16_t instrument);
 #[no_mangle]
 pub extern "C" fn cedar_prefix(instrument: u16) -> u64
-    ensures { λ r. ⌜ r ≡ packedOf (prefixAnswer instrument) ⌝ }
+    ensures { λ r. ⌜ CedarFindsPrefix instrument r ⌝ }
 {
     let letters = prefix::prefix_of(instrument);
     units::pack(prefix::numbers(letters))
@@ -30,7 +24,7 @@ pub extern "C" fn cedar_prefix(instrument: u16) -> u64
 // uint64_t cedar_to_lines(const uint8_t *block, size_t block_length, uint8_t *text, size_t text_length);
 #[no_mangle]
 pub extern "C" fn cedar_to_lines(block: &[u8], text: &mut [u8]) -> u64
-    ensures { λ r. ⌜ returned r (now (text .exit)) ≡ converted (toLines (now (block .entry)) (now (text .entry))) ⌝ }
+    ensures { λ r. ⌜ CedarWritesLines (now (block .entry)) (now (text .entry)) r (now (text .exit)) ⌝ }
 {
     let lined = write_lines::to_lines(block, text);
     units::pack(write_lines::numbers(lined))
@@ -39,7 +33,7 @@ pub extern "C" fn cedar_to_lines(block: &[u8], text: &mut [u8]) -> u64
 // uint64_t cedar_to_block(const uint8_t *text, size_t text_length, uint8_t *block, size_t block_length);
 #[no_mangle]
 pub extern "C" fn cedar_to_block(text: &[u8], block: &mut [u8]) -> u64
-    ensures { λ r. ⌜ returned r (now (block .exit)) ≡ converted (toBlock (now (text .entry)) (now (block .entry))) ⌝ }
+    ensures { λ r. ⌜ CedarWritesBlock (now (text .entry)) (now (block .entry)) r (now (block .exit)) ⌝ }
 {
     let built = read_text::to_block(text, block);
     units::pack(read_text::numbers(built))
@@ -48,7 +42,7 @@ pub extern "C" fn cedar_to_block(text: &[u8], block: &mut [u8]) -> u64
 // uint64_t cedar_sheet_start(uint8_t *sheet, size_t length);
 #[no_mangle]
 pub extern "C" fn cedar_sheet_start(sheet: &mut [u8]) -> u64
-    ensures { λ r. ⌜ returned r (now (sheet .exit)) ≡ converted (started version1 (now (sheet .entry))) ⌝ }
+    ensures { λ r. ⌜ CedarStarts (now (sheet .entry)) r (now (sheet .exit)) ⌝ }
 {
     let opened = sheet::start(sheet);
     units::pack(sheet::numbers(opened))
@@ -64,7 +58,7 @@ pub extern "C" fn cedar_amend(
     old: u16,
     new: u16,
 ) -> u64
-    ensures { λ r. ⌜ returnedBoth r (now (block .exit)) (now (sheet .exit)) ≡ amendedBoth (amend version1 (number ∷ word ∷ old ∷ new ∷ []) (now (block .entry)) (now (sheet .entry))) ⌝ }
+    ensures { λ r. ⌜ CedarAmends (number ∷ word ∷ old ∷ new ∷ []) (now (block .entry)) (now (sheet .entry)) r (now (block .exit)) (now (sheet .exit)) ⌝ }
 {
     let e = Amendment {
         number,
@@ -79,7 +73,7 @@ pub extern "C" fn cedar_amend(
 // uint64_t cedar_undo(uint8_t *block, size_t block_length, uint8_t *sheet, size_t sheet_length);
 #[no_mangle]
 pub extern "C" fn cedar_undo(block: &mut [u8], sheet: &mut [u8]) -> u64
-    ensures { λ r. ⌜ returnedBoth r (now (block .exit)) (now (sheet .exit)) ≡ amendedBoth (undo version1 (now (block .entry)) (now (sheet .entry))) ⌝ }
+    ensures { λ r. ⌜ CedarUndoes (now (block .entry)) (now (sheet .entry)) r (now (block .exit)) (now (sheet .exit)) ⌝ }
 {
     let amended = amending::undo(block, sheet);
     units::pack(amending::numbers(amended))

@@ -1,3 +1,4 @@
 pub mod Table
 pub mod LookUp
 pub mod Rising
+pub mod Promises

@@ -6,7 +6,8 @@ ghost use Prim.Native.Nat.{_<_};
 ghost use lib.ListN.{getD};
 ghost use Rattle.prefix.specs.Rising.{rises};
 ghost use Rattle.prefix.specs.LookUp.{placeIn};
-ghost use Rattle.prefix.specs.Table.{prefixes, dashes, prefixOf, answerOf};
+ghost use Rattle.prefix.specs.Table.{prefixes, dashes, answerOf};
+ghost use Rattle.prefix.specs.Promises.{FindsPrefix};
 
 // The byte values of the three letters.
 pub struct Letters(pub u8, pub u8, pub u8);
@@ -183,7 +184,7 @@ fn letters_at(row: usize) -> Letters
 
 // The letters of an instrument's code, "---" where it is not listed.
 pub fn prefix_of(instrument: u16) -> Letters
-    ensures { λ r. ⌜ r ≡ prefixOf instrument ⌝ }
+    ensures { λ r. ⌜ FindsPrefix instrument r ⌝ }
 {
     let row = place_in(&CODES, instrument);
     if row < CODES.len() {

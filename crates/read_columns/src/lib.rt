@@ -156,7 +156,7 @@ pub fn zero_fields(line: &[u8], num: Lines, from: Words, count: Words) -> Tested
 // The four numbers of a refusal.
 pub fn numbers(f: Flaw) -> Answer
     requires { ⌜ Packs (flawOf f) ⌝ }
-    ensures { λ r. ⌜ r ≡ flawOf f ⌝ }
+    ensures { λ r. ⌜ (r ≡ flawOf f) × (r .a < 2 ^ 24) ⌝ }
 {
     match f {
         Flaw::Byte(line, column) => at_column(20, line, column),
@@ -175,7 +175,7 @@ pub fn numbers(f: Flaw) -> Answer
 // Refusal n at a line and a column.
 fn at_column(n: u8, line: Lines, column: Bytes) -> Answer
     requires { ⌜ (line .0 < 2 ^ 24) × (column .0 < 2 ^ 16) ⌝ }
-    ensures { λ r. ⌜ r ≡ answer n (line .0) (column .0) 0 ⌝ }
+    ensures { λ r. ⌜ (r ≡ answer n (line .0) (column .0) 0) × (r .a < 2 ^ 24) ⌝ }
 {
     let a = line.0;
     let b = column.0;

@@ -1,5 +1,5 @@
 -- The numbers of every answer of lines to block: listed, and with room in the packing.
-use mathlib.Core.Path.{_≡_}
+use mathlib.Core.Path.{_≡_, ap}
 use mathlib.Core.Logic.{_⊎_, inl, inr}
 use mathlib.Core.List.{List, [], _∷_}
 use Prim.Native.Nat.{ℕ, suc, _+_, _^_, _≤_, _<_}
@@ -8,17 +8,20 @@ use borrow.Author.Tests.{ltb-false, eqb-false}
 use lib.Dec.{ltb, eqb}
 use lib.ListN.{length, length-append}
 use Rattle.units.specs.declared.Answer.{Answer}
-use Rattle.units.specs.Answers.{answer, Verdict, passed, refused, onward, Packs}
+use Rattle.units.specs.Answers.{answer, Verdict, passed, refused, onward, answered, Packs}
 use Rattle.words.specs.Words.{mostRecordWords, blockFrom}
-use Rattle.words.specs.Outcomes.{written}
+use Rattle.words.specs.Outcomes.{written, leaves}
 use Rattle.words.proofs.Sealing.{length-framed}
 use Rattle.words.proofs.Writing.{written-told}
 use Rattle.units.specs.Units.{Line}
 use Rattle.read_cut.specs.Lines.{onto, linesIn, endLength}
 use Rattle.read_first_line.specs.FirstLine.{Shape, Read}
 use Rattle.read_line.specs.Lines.{readLine, atEnd, readLines}
-use Rattle.read_text.specs.Cases.{ToBlockRow, TextRow}
-use Rattle.read_text.specs.Block.{readText, toBlock}
+use Rattle.read_text.specs.declared.Content.{Content}
+use Rattle.read_text.specs.declared.Built.{Built}
+use Rattle.read_text.specs.Cases.{ToBlockRow, TextRow, contentOf, builtOf}
+use Rattle.read_text.specs.Block.{readText, wordsIn, toBlock}
+use Rattle.read_text.specs.Promises.{JudgesLines, WritesBlock}
 use Rattle.units.proofs.Told.{Known, then-known}
 use Rattle.read_text.proofs.Told.{told}
 use Rattle.units.proofs.Choosing.{by-test, both-ways}
@@ -102,3 +105,18 @@ answer-told t out = by (readText t) (text-known t)
     by (passed ws) h =
         let w = written-told out (blockFrom ws) (omega (arith, length-framed ws, h .most)) in
         record { listed = listed (w .0); packs = w .1 }
+
+content-packs : (t : List ℕ) → Packs (answered (wordsIn t))
+unfolding wordsIn
+content-packs t = by (readText t) (text-known t)
+  where
+    by : (v : Verdict (List ℕ)) → Known TextRow (WordsFit 0) v → Packs (answered (onward v (λ ws. passed (length ws))))
+    by (refused r) h = h .packs
+    by (passed ws) h = omega (arith, h .most)
+
+-- so outcomes that are the definitions' keep the promises
+pub lines-promised : (t : List ℕ) {r : Content} → contentOf r ≡ wordsIn t → JudgesLines t r
+lines-promised t e = record { outcome = e; packs = rw e (content-packs t) }
+
+pub block-promised : (t block : List ℕ) {r : Built} {after : List ℕ} → leaves (builtOf r) after ≡ toBlock t block → WritesBlock t block r after
+block-promised t block e = record { outcome = e; packs = rw (ap (λ w. w .answer) e) (answer-told t block .packs) }

@@ -8,7 +8,7 @@ use units::Lines;
 use units::Words;
 ghost use mathlib.Core.Path.{_≡_};
 ghost use mathlib.Core.List.{[]};
-ghost use Prim.Native.Nat.{_≤_};
+ghost use Prim.Native.Nat.{_≤_, _<_, _^_};
 ghost use lib.ListN.{length};
 ghost use Rattle.units.specs.Answers.{Packs};
 ghost use Rattle.words.specs.Outcomes.{leaves};
@@ -18,6 +18,7 @@ ghost use Rattle.read_first_line.specs.State.{toCome};
 ghost use Rattle.read_text.specs.Content.{stored, storedOf, Ended};
 ghost use Rattle.read_text.specs.Block.{wordsIn, toBlock};
 ghost use Rattle.read_text.specs.Cases.{contentOf, builtOf};
+ghost use Rattle.read_text.specs.Promises.{JudgesLines, WritesBlock};
 
 // What is found of a text: its record words, or why it is refused.
 pub enum Content {
@@ -87,7 +88,7 @@ pub enum Built {
 
 // Judges a text, and writes nothing.
 pub fn judge(text: &[u8]) -> Content
-    ensures { λ r. ⌜ contentOf r ≡ wordsIn (now (text .entry)) ⌝ }
+    ensures { λ r. ⌜ JudgesLines (now (text .entry)) r ⌝ }
 {
     if 65536 < text.len() {
         return Content::Flawed(Flaw::Long);
@@ -114,7 +115,7 @@ fn write_block(text: &[u8], records: Words, block: &mut [u8]) -> Built
 
 // Lines to block.
 pub fn to_block(text: &[u8], block: &mut [u8]) -> Built
-    ensures { λ r. ⌜ leaves (builtOf r) (now (block .exit)) ≡ toBlock (now (text .entry)) (now (block .entry)) ⌝ }
+    ensures { λ r. ⌜ WritesBlock (now (text .entry)) (now (block .entry)) r (now (block .exit)) ⌝ }
 {
     match judge(text) {
         Content::Flawed(f) => Built::Refused(f),
@@ -125,7 +126,7 @@ pub fn to_block(text: &[u8], block: &mut [u8]) -> Built
 // The four numbers of an answer.
 pub fn numbers(b: Built) -> Answer
     requires { ⌜ Packs (builtOf b) ⌝ }
-    ensures { λ r. ⌜ r ≡ builtOf b ⌝ }
+    ensures { λ r. ⌜ (r ≡ builtOf b) × (r .a < 2 ^ 24) ⌝ }
 {
     match b {
         Built::Block(size) => units::sized(0, size),

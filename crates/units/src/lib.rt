@@ -107,7 +107,7 @@ pub fn row(n: u8, a: u16, b: u16, c: u16) -> Answer
 // The answer of row n that says `size` bytes.
 pub fn sized(n: u8, size: Bytes) -> Answer
     requires { ⌜ size .0 < 2 ^ 24 ⌝ }
-    ensures { λ r. ⌜ r ≡ answer n (size .0) 0 0 ⌝ }
+    ensures { λ r. ⌜ (r ≡ answer n (size .0) 0 0) × (r .a < 2 ^ 24) ⌝ }
 {
     let bytes = size.0;
     Answer {

@@ -17,7 +17,9 @@ use Rattle.block.proofs.Known.{KnownBlock, judged-known}
 use Rattle.words.specs.Words.{Below}
 use Rattle.words.proofs.Writing.{written-told}
 use Rattle.write_lines.proofs.Sizes.{text-bound}
-use Rattle.write_lines.specs.Cases.{LinesRow}
+use Rattle.write_lines.specs.declared.Lined.{Lined}
+use Rattle.write_lines.specs.Cases.{LinesRow, linedOf}
+use Rattle.write_lines.specs.Promises.{WritesLines}
 use Rattle.write_lines.specs.Text.{textOf, toLines}
 
 when-refused : (b out : List ℕ) (r : Answer) → judged b ≡ refused r → toLines b out ≡ leaves r out
@@ -49,3 +51,7 @@ outcome-told b out h = by (judged b) refl (judged-known b h)
     by (passed k) e t =
         let w = written-told out (textOf (recordsOf b)) (omega (arith, text-bound b h (record { count = k; is = e }))) in
         rw (when-accepted b out k e) (listed (w .0), w .1)
+
+-- so an outcome that is the definition's keeps the promise
+pub promised : (b text : List ℕ) → Below 256 b → {r : Lined} {after : List ℕ} → leaves (linedOf r) after ≡ toLines b text → WritesLines b text r after
+promised b text h e = record { outcome = e; packs = rw (ap (λ w. w .answer) e) (outcome-told b text h .1) }

@@ -15,9 +15,10 @@ ghost use Rattle.block.specs.Rules.{BlockRecord};
 ghost use Rattle.write_parts.specs.Laid.{ended};
 ghost use Rattle.line_plan.specs.Plan.{kindShown};
 ghost use Rattle.write_lines.specs.Lines.{linesOf, columnsIn, Writable};
-ghost use Rattle.write_lines.specs.Text.{textOf, toLines};
+ghost use Rattle.write_lines.specs.Text.{textOf};
 ghost use Rattle.write_lines.specs.Cases.{linedOf};
-ghost use Rattle.units.specs.Answers.{passed};
+ghost use Rattle.write_lines.specs.Promises.{WritesLines};
+ghost use Rattle.units.specs.Answers.{passed, Packs};
 ghost use Rattle.words.specs.Outcomes.{written, leaves};
 ghost use Rattle.block.specs.Judging.{Accepted};
 ghost use Rattle.block.specs.Records.{recordsOf};
@@ -162,7 +163,7 @@ fn write_text(block: &[u8], text: &mut [u8]) -> Lined
 
 // Block to lines.
 pub fn to_lines(block: &[u8], text: &mut [u8]) -> Lined
-    ensures { λ r. ⌜ leaves (linedOf r) (now (text .exit)) ≡ toLines (now (block .entry)) (now (text .entry)) ⌝ }
+    ensures { λ r. ⌜ WritesLines (now (block .entry)) (now (text .entry)) r (now (text .exit)) ⌝ }
 {
     match block::judge(block) {
         Judged::Refused(r) => Lined::Refused(r),
@@ -172,8 +173,8 @@ pub fn to_lines(block: &[u8], text: &mut [u8]) -> Lined
 
 // The four numbers of an answer.
 pub fn numbers(l: Lined) -> Answer
-    requires { ⌜ linedOf l .a < 2 ^ 24 ⌝ }
-    ensures { λ r. ⌜ r ≡ linedOf l ⌝ }
+    requires { ⌜ Packs (linedOf l) ⌝ }
+    ensures { λ r. ⌜ (r ≡ linedOf l) × (r .a < 2 ^ 24) ⌝ }
 {
     match l {
         Lined::Text(size) => units::sized(0, size),
