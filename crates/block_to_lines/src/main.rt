@@ -3,7 +3,7 @@ use libc::STDIN_FILENO;
 use libc::STDOUT_FILENO;
 
 fn put_lines(block: &[u8]) {
-    let mut text = [0u8; 55971];
+    let mut text = [0u8; printed::TEXT_BYTES];
     let end = printed::print_lines(block, &mut text).0;
     io::write_all(STDOUT_FILENO, &text[..end]);
 }

@@ -11,7 +11,7 @@ use Rattle.units.specs.declared.Answer.{Answer}
 use Rattle.units.specs.declared.Lines.{Lines}
 use Rattle.units.specs.declared.Bytes.{Bytes}
 use Rattle.units.specs.Answers.{Verdict, passed, refused, answered}
-use Rattle.words.specs.Outcomes.{Written}
+use Rattle.words.specs.Outcomes.{Written, leaves}
 use Rattle.write_lines.specs.Text.{toLines}
 use Rattle.read_text.specs.Block.{toBlock}
 use Rattle.sheet.specs.Sheets.{version1, started}
@@ -43,8 +43,11 @@ use Rattle.amending.specs.declared.Amended.the-variants as amending
 use Rattle.amending.specs.declared.Objection.the-variants as rows
 use Rattle.block_value.specs.declared.Obstacle.the-variants as value
 use Rattle.amending.specs.Cases.{amendedOf}
-use Rattle.amending.specs.Amending.{Outcome}
-use Rattle.demands.specs.Agree.{JudgeAgrees, CedarJudgeAgrees, StepAgrees, FindAgrees, PrefixAgrees, CedarPrefixAgrees, WrittenAgree, CedarWrittenAgree, LinesAgree, CedarLinesAgree, ContentAgrees, BlockAgrees, CedarBlockAgrees, PutAgrees, OpenAgrees, StartAgrees, BothAgree, AmendAgrees, UndoAgrees, CedarStartAgrees, CedarBothAgree, CedarAmendAgrees, CedarUndoAgrees}
+use Rattle.amending.specs.Amending.{Outcome, buffers, amend, undo}
+use Rattle.cedar.specs.Calls.{Returned, returned, converted, ReturnedBoth, returnedBoth, amendedBoth}
+use Rattle.printed.specs.Listing.{listingOf}
+use Rattle.printed.specs.Printed.{linesPrinted, blockPrinted}
+use Rattle.demands.specs.Agree.{FixesOne, FixesTwo, JudgeAgrees, StepAgrees, FindAgrees, PrefixAgrees, LinesAgree, ContentAgrees, BlockAgrees, OpenAgrees, StartAgrees, AmendAgrees, UndoAgrees, CedarJudgeAgrees, CedarPrefixAgrees, CedarLinesAgree, CedarBlockAgrees, CedarStartAgrees, CedarAmendAgrees, CedarUndoAgrees, PutAgrees, PrintedListingAgrees, PrintedLinesAgree, PrintedBlockAgrees}
 
 -- the case that a refusal's numbers tell
 refusalCase : Answer → Refusal
@@ -100,28 +103,6 @@ unfolding judgedCase
 judged-back (Records k) = refl
 judged-back (Refused r) = ap Refused (refusal-back r)
 
-pub judge-agrees : JudgeAgrees
-judge-agrees block r s p q = sym (judged-back r) ∙ ap judgedCase (p ∙ sym q) ∙ judged-back s
-
--- where the promise names the outcome itself
-same : {A : Type 0} {x r s : A} → r ≡ x → s ≡ x → r ≡ s
-same p q = p ∙ sym q
-
-pub cedar-judge-agrees : CedarJudgeAgrees
-cedar-judge-agrees block r s p q = same p q
-
-pub step-agrees : StepAgrees
-step-agrees block at r s p q = same p q
-
-pub find-agrees : FindAgrees
-find-agrees block number r s p q = same p q
-
-pub prefix-agrees : PrefixAgrees
-prefix-agrees instrument r s p q = same p q
-
-pub cedar-prefix-agrees : CedarPrefixAgrees
-cedar-prefix-agrees instrument r s p q = same p q
-
 -- the case that the numbers of block to lines tell
 linedCase : Answer → Lined
 linedCase r = if eqb (r .n) 0 then Text (record { 0 = r .a }) else if eqb (r .n) 29 then lines.Short (record { 0 = r .a }) else lines.Refused (refusalCase r)
@@ -131,19 +112,6 @@ unfolding linedCase
 lined-back (Text size) = refl
 lined-back (lines.Short size) = refl
 lined-back (lines.Refused r) = simp (other r 0 (inl refl), other r 29 (inr (omega arith))) (ap lines.Refused (refusal-back r))
-
--- the answer's numbers tell its case, so outcomes agree on it, and on the buffer
-written-agree : {R : Type 0} (of : R → Answer) (case : Answer → R) → ((r : R) → case (of r) ≡ r) → (o : Written) → WrittenAgree of o
-written-agree of case back o r s t u p q = let e = same p q in (sym (back r) ∙ ap (λ w. case (w .answer)) e ∙ back s, ap (λ w. w .out) e)
-
-cedar-written-agree : (o : Written) → CedarWrittenAgree o
-cedar-written-agree o r s t u p q = let e = same p q in (ap (λ w. w .number) e, ap (λ w. w .out) e)
-
-pub lines-agree : LinesAgree
-lines-agree block text = written-agree linedOf linedCase lined-back (toLines block text)
-
-pub cedar-lines-agree : CedarLinesAgree
-cedar-lines-agree block text = cedar-written-agree (toLines block text)
 
 -- the case that the numbers of lines to block tell
 builtCase : Answer → Built
@@ -193,18 +161,6 @@ unfolding contentCase flawIn
 content-back (text.RecordWords n) = refl
 content-back (Flawed f) = ap (λ x. Flawed (flawIn x)) (built-back (built.Refused f))
 
-pub content-agrees : ContentAgrees
-content-agrees text r s p q = sym (content-back r) ∙ ap contentCase (same p q) ∙ content-back s
-
-pub block-agrees : BlockAgrees
-block-agrees text block = written-agree builtOf builtCase built-back (toBlock text block)
-
-pub cedar-block-agrees : CedarBlockAgrees
-cedar-block-agrees text block = cedar-written-agree (toBlock text block)
-
-pub put-agrees : PutAgrees
-put-agrees before text after also at n m p q = (same (p .bytes) (q .bytes), same (p .ends) (q .ends))
-
 -- the case that the numbers of a sheet tell
 openedCase : Answer → Opened
 openedCase r = if eqb (r .n) 0 then sheet.Standing (r .a) else sheet.Broken
@@ -213,15 +169,6 @@ opened-back : (o : Opened) → openedCase (answered (openedOf o)) ≡ o
 unfolding openedCase
 opened-back (sheet.Standing count) = refl
 opened-back sheet.Broken = refl
-
-pub open-agrees : OpenAgrees
-open-agrees sheet r s p q = sym (opened-back r) ∙ ap (λ v. openedCase (answered v)) (same p q) ∙ opened-back s
-
-pub start-agrees : StartAgrees
-start-agrees sheet = written-agree (λ (o : Opened). answered (openedOf o)) openedCase opened-back (started version1 sheet)
-
-pub cedar-start-agrees : CedarStartAgrees
-cedar-start-agrees sheet = cedar-written-agree (started version1 sheet)
 
 -- the case that the numbers of amend and undo tell
 amendedCase : Answer → Amended
@@ -251,21 +198,97 @@ amended-back (amending.Refused (rows.Block r)) =
     simp (other r 0 (inl refl), far 40 (omega arith), far 41 (omega arith), far 42 (omega arith), far 43 (omega arith), far 44 (omega arith), far 45 (omega arith), far 46 (omega arith))
     (ap (λ b. amending.Refused (rows.Block b)) (refusal-back r))
 
-both-agree : (o : Outcome) → BothAgree o
+-- ---- the calls
+
+-- two that are the same as a third are the same
+same : {A : Type 0} {x r s : A} → r ≡ x → s ≡ x → r ≡ s
+same p q = p ∙ sym q
+
+-- where an answer's numbers tell its case, those that have the same numbers are the same
+by-case : {R N : Type 0} (of : R → N) (case : N → R) → ((r : R) → case (of r) ≡ r) → (r s : R) → of r ≡ of s → r ≡ s
+by-case of case back r s e = sym (back r) ∙ ap case e ∙ back s
+
+pub judge-agrees : JudgeAgrees
+judge-agrees block r s p q = by-case judgedOf judgedCase judged-back r s (same p q)
+
+pub step-agrees : StepAgrees
+step-agrees block at r s p q = same p q
+
+pub find-agrees : FindAgrees
+find-agrees block number r s p q = same p q
+
+pub prefix-agrees : PrefixAgrees
+prefix-agrees instrument r s p q = same p q
+
+-- and where these stand with a buffer, it is the same too
+written-agree : {R : Type 0} (of : R → Answer) (case : Answer → R) → ((r : R) → case (of r) ≡ r) → (o : Written) → FixesOne (λ r t. leaves (of r) t ≡ o)
+written-agree of case back o r s t u p q = let e = same p q in (by-case of case back r s (ap (λ w. w .answer) e), ap (λ w. w .out) e)
+
+pub lines-agree : LinesAgree
+lines-agree block text r s t u p q = written-agree linedOf linedCase lined-back (toLines block text) r s t u (p .outcome) (q .outcome)
+
+pub content-agrees : ContentAgrees
+content-agrees text r s p q = by-case contentOf contentCase content-back r s (same (p .outcome) (q .outcome))
+
+pub block-agrees : BlockAgrees
+block-agrees text block r s t u p q = written-agree builtOf builtCase built-back (toBlock text block) r s t u (p .outcome) (q .outcome)
+
+pub open-agrees : OpenAgrees
+open-agrees sheet r s p q = by-case (λ o. answered (openedOf o)) openedCase opened-back r s (ap answered (same p q))
+
+pub start-agrees : StartAgrees
+start-agrees sheet = written-agree (λ (o : Opened). answered (openedOf o)) openedCase opened-back (started version1 sheet)
+
+-- with both buffers
+both-agree : (o : Outcome) → FixesTwo (λ r b x. buffers (answered (amendedOf r)) b x ≡ o)
 both-agree o r s b c x y p q =
-    let e = same p q in (sym (amended-back r) ∙ ap (λ a. amendedCase (a .answer)) e ∙ amended-back s, ap (λ a. a .block) e, ap (λ a. a .sheet) e)
+    let e = same p q in (by-case (λ a. answered (amendedOf a)) amendedCase amended-back r s (ap (λ a. a .answer) e), ap (λ a. a .block) e, ap (λ a. a .sheet) e)
 
 pub amend-agrees : AmendAgrees
-amend-agrees e block sheet = both-agree _
+amend-agrees e block sheet = both-agree (amend version1 e block sheet)
 
 pub undo-agrees : UndoAgrees
-undo-agrees block sheet = both-agree _
+undo-agrees block sheet = both-agree (undo version1 block sheet)
 
-cedar-both-agree : (o : Outcome) → CedarBothAgree o
-cedar-both-agree o r s b c x y p q = let e = same p q in (ap (λ a. a .number) e, ap (λ a. a .block) e, ap (λ a. a .sheet) e)
+-- ---- the calls for C
+
+pub cedar-judge-agrees : CedarJudgeAgrees
+cedar-judge-agrees block r s p q = same p q
+
+pub cedar-prefix-agrees : CedarPrefixAgrees
+cedar-prefix-agrees instrument r s p q = same p q
+
+returned-agree : (o : Returned) → FixesOne (λ r t. returned r t ≡ o)
+returned-agree o r s t u p q = let e = same p q in (ap (λ w. w .number) e, ap (λ w. w .out) e)
+
+pub cedar-lines-agree : CedarLinesAgree
+cedar-lines-agree block text = returned-agree (converted (toLines block text))
+
+pub cedar-block-agrees : CedarBlockAgrees
+cedar-block-agrees text block = returned-agree (converted (toBlock text block))
+
+pub cedar-start-agrees : CedarStartAgrees
+cedar-start-agrees sheet = returned-agree (converted (started version1 sheet))
+
+returned-both-agree : (o : ReturnedBoth) → FixesTwo (λ r b x. returnedBoth r b x ≡ o)
+returned-both-agree o r s b c x y p q = let e = same p q in (ap (λ a. a .number) e, ap (λ a. a .block) e, ap (λ a. a .sheet) e)
 
 pub cedar-amend-agrees : CedarAmendAgrees
-cedar-amend-agrees e block sheet = cedar-both-agree _
+cedar-amend-agrees e block sheet = returned-both-agree (amendedBoth (amend version1 e block sheet))
 
 pub cedar-undo-agrees : CedarUndoAgrees
-cedar-undo-agrees block sheet = cedar-both-agree _
+cedar-undo-agrees block sheet = returned-both-agree (amendedBoth (undo version1 block sheet))
+
+-- ---- what the programs print
+
+pub put-agrees : PutAgrees
+put-agrees before text at n m after also p q = (same (p .ends) (q .ends), same (p .bytes) (q .bytes))
+
+pub printed-listing-agrees : PrintedListingAgrees
+printed-listing-agrees block out r s t u p q = put-agrees out (listingOf block) 0 r s t u (p .put) (q .put)
+
+pub printed-lines-agree : PrintedLinesAgree
+printed-lines-agree block out r s t u p q = put-agrees out (linesPrinted block) 0 r s t u (p .put) (q .put)
+
+pub printed-block-agrees : PrintedBlockAgrees
+printed-block-agrees text out r s t u p q = put-agrees out (blockPrinted text) 0 r s t u (p .put) (q .put)

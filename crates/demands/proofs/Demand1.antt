@@ -28,7 +28,7 @@ use Rattle.cedar.specs.Calls.{prefixAnswer}
 use Rattle.read_text.specs.Cases.{TextRow}
 use Rattle.read_text.specs.Block.{readText, wordsIn, toBlock}
 use Rattle.read_text.proofs.Known.{WordsFit, text-known, answer-told}
-use Rattle.demands.specs.Demand1.{Judges, JudgeAnswers, PrefixAnswers, LinesAnswers, ContentAnswers, BlockAnswers, Writes, SheetRow, OpenAnswers, StartAnswers, BothAnswer, AmendRow, AmendAnswers, UndoRow, UndoAnswers}
+use Rattle.demands.specs.Demand1.{Judgement, JudgeAnswers, PrefixAnswers, LinesAnswers, ContentAnswers, BlockAnswers, Writes, SheetRow, OpenAnswers, StartAnswers, BothAnswer, AmendRow, AmendAnswers, UndoRow, UndoAnswers}
 use Rattle.units.specs.declared.Answer.{Answer}
 use Rattle.units.proofs.Choosing.{by-test, both-ways}
 use Rattle.words.proofs.Laws.{getD-below}
@@ -46,7 +46,7 @@ use Rattle.units.proofs.Told.{Known}
 pub judge-answers : JudgeAnswers
 judge-answers block bytes = by (judged block) (judged-known block bytes)
   where
-    by : (v : Verdict ℕ) → KnownBlock v → Judges BlockRow v
+    by : (v : Verdict ℕ) → KnownBlock v → Judgement BlockRow v
     by (passed k) h = taken-apart (answer 0 k 0 0) (omega arith)
     by (refused r) h = (h .listed, taken-apart r (h .packs))
 
@@ -108,7 +108,7 @@ pub content-answers : ContentAnswers
 unfolding wordsIn
 content-answers text = by (readText text) (text-known text)
   where
-    by : (v : Verdict (List ℕ)) → Known TextRow (WordsFit 0) v → Judges TextRow (onward v (λ ws. passed (length ws)))
+    by : (v : Verdict (List ℕ)) → Known TextRow (WordsFit 0) v → Judgement TextRow (onward v (λ ws. passed (length ws)))
     by (passed ws) h = taken-apart (answer 0 (length ws) 0 0) (omega (arith, h .most))
     by (refused r) h = (h .listed, taken-apart r (h .packs))
 
@@ -138,7 +138,7 @@ opened-refused sheet r =
 pub open-answers : OpenAnswers
 open-answers sheet bytes = by (opened version1 sheet) refl
   where
-    by : (v : Verdict ℕ) → opened version1 sheet ≡ v → Judges SheetRow v
+    by : (v : Verdict ℕ) → opened version1 sheet ≡ v → Judgement SheetRow v
     by (passed n) e = let s = sheet-opened version1 sheet n bytes e in taken-apart (answer 0 n 0 0) (omega (arith, s .0 .most, s .1))
     by (refused r) e = rw (opened-refused sheet r e) (refl, taken-apart (answer 40 0 0 0) (omega arith))
 

@@ -31,9 +31,9 @@ abbrev pub Numbered : (ℕ → Type 0) → Answer → Type 0
 Numbered Row r = ((r .n ≡ 0) ⊎ Row (r .n)) × Unpacks r
 
 -- a judgement: what is refused has the number of one of these rows
-abbrev pub Judges : (ℕ → Type 0) → Verdict ℕ → Type 0
-Judges Row (passed a) = Unpacks (answer 0 a 0 0)
-Judges Row (refused r) = Row (r .n) × Unpacks r
+abbrev pub Judgement : (ℕ → Type 0) → Verdict ℕ → Type 0
+Judgement Row (passed a) = Unpacks (answer 0 a 0 0)
+Judgement Row (refused r) = Row (r .n) × Unpacks r
 
 -- what a call on one lent buffer leaves: "Every refusal leaves every buffer untouched"
 abbrev pub Writes : (ℕ → Type 0) → List ℕ → Written → Type 0
@@ -43,7 +43,7 @@ Writes Row before w = Numbered Row (w .answer) × ((w .answer .n ≡ 0 → ⊥) 
 
 -- "Order for a block: 1, 2, 3, then each record: 4, 5, 6, 7, 8, 9"
 abbrev pub JudgeAnswers : Type 0
-JudgeAnswers = (block : List ℕ) → Below 256 block → Judges BlockRow (judged block)
+JudgeAnswers = (block : List ℕ) → Below 256 block → Judgement BlockRow (judged block)
 
 -- "To lines: the block, then 29"
 abbrev pub LinesAnswers : Type 0
@@ -51,7 +51,7 @@ LinesAnswers = (block text : List ℕ) → Below 256 block → Writes LinesRow t
 
 -- "Order for text: 30, then line by line ... At the end 21"
 abbrev pub ContentAnswers : Type 0
-ContentAnswers = (text : List ℕ) → Judges TextRow (wordsIn text)
+ContentAnswers = (text : List ℕ) → Judgement TextRow (wordsIn text)
 
 -- "then 29"
 abbrev pub BlockAnswers : Type 0
@@ -62,7 +62,7 @@ abbrev pub SheetRow : ℕ → Type 0
 SheetRow n = n ≡ 40
 
 abbrev pub OpenAnswers : Type 0
-OpenAnswers = (sheet : List ℕ) → Below 256 sheet → Judges SheetRow (opened version1 sheet)
+OpenAnswers = (sheet : List ℕ) → Below 256 sheet → Judgement SheetRow (opened version1 sheet)
 
 abbrev pub StartAnswers : Type 0
 StartAnswers = (sheet : List ℕ) → Writes SheetRow sheet (started version1 sheet)

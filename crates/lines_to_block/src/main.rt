@@ -3,7 +3,7 @@ use libc::STDIN_FILENO;
 use libc::STDOUT_FILENO;
 
 fn put_block(text: &[u8]) {
-    let mut block = [0u8; 16000];
+    let mut block = [0u8; printed::BLOCK_BYTES];
     let end = printed::print_block(text, &mut block).0;
     io::write_all(STDOUT_FILENO, &block[..end]);
 }

@@ -3,8 +3,7 @@ use block::Judged;
 use units::Bytes;
 use units::Words;
 ghost use mathlib.Core.List.{[], _∷_};
-ghost use Prim.Native.Nat.{_≤_, _<_};
-ghost use lib.ListN.{length};
+ghost use Prim.Native.Nat.{_<_};
 ghost use Rattle.words.specs.Words.{wordsOf, mostWords};
 ghost use Rattle.words.specs.Writing.{Room, Put};
 ghost use Rattle.block.specs.Rules.{BlockRecord};
@@ -12,8 +11,17 @@ ghost use Rattle.block.specs.Judging.{Accepted};
 ghost use Rattle.block.specs.Records.{recordsOf};
 ghost use Rattle.prefix.specs.Table.{prefixOf};
 ghost use Rattle.report.specs.Text.{behind};
-ghost use Rattle.printed.specs.Listing.{signedOf, lettersOf, frontOf, rowOf, rowsOf, listingOf};
-ghost use Rattle.printed.specs.Printed.{Printed, linesPrinted, blockPrinted};
+ghost use Rattle.printed.specs.Listing.{signedOf, lettersOf, frontOf, rowOf, rowsOf};
+ghost use Rattle.printed.specs.Promises.{PrintsListing, PrintsLines, PrintsBlock};
+
+// The most bytes that are printed of a listing.
+pub const LISTING_BYTES: usize = 32768;
+
+// Of a block's lines.
+pub const TEXT_BYTES: usize = 55971;
+
+// And of a block.
+pub const BLOCK_BYTES: usize = 16000;
 
 // Puts the number that a word stands for in two's complement.
 fn write_signed(w: u16, out: &mut [u8], at: Bytes) -> Bytes
@@ -82,10 +90,9 @@ fn write_listing(block: &[u8], out: &mut [u8]) -> Bytes
     }
 }
 
-// Puts the listing of a block, which is never longer than 32,768 bytes.
-pub fn print_listing(block: &[u8], out: &mut [u8]) -> Bytes
-    requires { ⌜ 32768 ≤ length (now out) ⌝ }
-    ensures { λ r. ⌜ Printed (now (out .entry)) (listingOf (now (block .entry))) (now (out .exit)) (r .0) ⌝ }
+// Puts the listing of a block, or the line of its refusal.
+pub fn print_listing(block: &[u8], out: &mut [u8; LISTING_BYTES]) -> Bytes
+    ensures { λ r. ⌜ PrintsListing (now (block .entry)) (now (out .entry)) (r .0) (now (out .exit)) ⌝ }
 {
     match block::judge(block) {
         Judged::Records(_) => write_listing(block, out),
@@ -93,10 +100,9 @@ pub fn print_listing(block: &[u8], out: &mut [u8]) -> Bytes
     }
 }
 
-// Writes the lines of a block, or the line of its refusal, into a text that has room for any.
-pub fn print_lines(block: &[u8], out: &mut [u8]) -> Bytes
-    requires { ⌜ 55971 ≤ length (now out) ⌝ }
-    ensures { λ r. ⌜ Printed (now (out .entry)) (linesPrinted (now (block .entry))) (now (out .exit)) (r .0) ⌝ }
+// Writes the lines of a block, or the line of its refusal.
+pub fn print_lines(block: &[u8], out: &mut [u8; TEXT_BYTES]) -> Bytes
+    ensures { λ r. ⌜ PrintsLines (now (block .entry)) (now (out .entry)) (r .0) (now (out .exit)) ⌝ }
 {
     match block::judge(block) {
         Judged::Records(_) => write_lines::write_records(block, out),
@@ -104,10 +110,9 @@ pub fn print_lines(block: &[u8], out: &mut [u8]) -> Bytes
     }
 }
 
-// Writes the block of a text, or the line of its refusal, into a buffer that has room for any.
-pub fn print_block(text: &[u8], out: &mut [u8]) -> Bytes
-    requires { ⌜ 16000 ≤ length (now out) ⌝ }
-    ensures { λ r. ⌜ Printed (now (out .entry)) (blockPrinted (now (text .entry))) (now (out .exit)) (r .0) ⌝ }
+// Writes the block of a text, or the line of its refusal.
+pub fn print_block(text: &[u8], out: &mut [u8; BLOCK_BYTES]) -> Bytes
+    ensures { λ r. ⌜ PrintsBlock (now (text .entry)) (now (out .entry)) (r .0) (now (out .exit)) ⌝ }
 {
     let told = read_text::numbers(read_text::to_block(text, out));
     if told.n == 0 {
