@@ -22,7 +22,7 @@ use Rattle.amending.proofs.Steps.{undo-empty}
 use Rattle.demands.specs.Demand3.{Call, amends, undoes, prints, ofBoth, done, doneAll, Buffers, leftBy, fresh, Takes, putIn, stacked, modelled, modelledAll, stackAfter, MayAmend, ModelRule, asBuffers, StandingPutIn, LastStands, LinesDiffer, UndoneGivesBack}
 use Rattle.demands.proofs.Values.{alike-count}
 use Rattle.demands.proofs.Stack.{putIn-append, putIn-alike, putIn-block, last-stands}
-use Rattle.demands.proofs.AmendedText.{text-size, stack-outside, stack-shows}
+use Rattle.demands.proofs.AmendedText.{stack-apart, stack-shows}
 use Rattle.demands.proofs.Model.{Reached, none-reached, amend-either, amend-accepted, reached-on, reached-before, undo-last, from-end}
 
 -- ---- one call
@@ -187,4 +187,4 @@ lines-differ y b k cs bytes accepted takes =
     let s = l .1 .stack in
     let text : textOf (recordsOf (leftBy y (fresh y b) cs .block)) ≡ textOf ps =
     ap textOf (ap (λ q. recordsOf (q .block)) (l .0) ∙ its-records (blockOf ps) ps (still-block y rs good es (l .1))) in
-    rw text (text-size rs ps (putIn-alike rs es (good .each) s), stack-outside rs es (good .each) s, stack-shows rs es (good .each) s)
+    rw text (stack-apart rs es (good .each) s, stack-shows rs es (good .each) s)

@@ -2,12 +2,10 @@
 -- amendments put in, oldest first, its checksum fresh; its lines differ only in the amended six columns; undoing all gives
 -- back both buffers exactly."
 use mathlib.Core.Path.{_≡_}
-use mathlib.Core.Logic.{_⊎_}
 use mathlib.Core.Bool.{true}
 use mathlib.Core.List.{List, [], _∷_, _++_, map}
 use Prim.Native.Nat.{ℕ, _+_, _-_, _≤_, _<_}
-use lib.ListN.{length, getD, take, replicate}
-use lib.Seq.{slice}
+use lib.ListN.{length, take, replicate}
 use Rattle.units.specs.declared.Answer.{Answer}
 use Rattle.units.specs.Answers.{answer, Verdict, passed, refused}
 use Rattle.words.specs.Words.{All, Below}
@@ -16,13 +14,13 @@ use Rattle.record.specs.Values.{isValue}
 use Rattle.block.specs.Judging.{judged}
 use Rattle.block.specs.Records.{recordsOf}
 use Rattle.block.specs.Rules.{blockOf}
-use Rattle.field.specs.Writing.{fieldOf}
 use Rattle.write_lines.specs.Text.{textOf, toLines}
 use Rattle.write_lines.specs.Columns.{columnsBefore}
 use Rattle.sheet.specs.Sheets.{Layout, Entry, sheetOf}
 use Rattle.sheet.specs.Rules.{IsEntry}
 use Rattle.block_value.specs.Places.{recordNumber, wordNumber, oldValue, newValue, recordIn, found, withValue}
 use Rattle.amending.specs.Amending.{Outcome, Both, both, amendable, undoable, amend, undo}
+use Rattle.demands.specs.Lines.{Outside, Shows, SameAt}
 
 -- ---- the calls
 
@@ -156,19 +154,14 @@ LastStands =
 abbrev pub bytesBefore : List (List ℕ) → Entry → ℕ
 bytesBefore rs e = length (textOf (take (recordNumber e - 1) rs)) + columnsBefore (recordIn rs (recordNumber e)) (wordNumber e - 1)
 
--- a byte that is none of the six from `before` on
-abbrev pub Outside : ℕ → ℕ → Type 0
-Outside i before = (i < before) ⊎ (before + 6 ≤ i)
-
 -- "its lines differ only in the amended six columns", which show the value that stands
 abbrev pub LinesDiffer : Type 0
 LinesDiffer =
     (y : Layout) (b : List ℕ) (k : ℕ) (cs : List Call) → Below 256 b → judged b ≡ passed k → All (Takes y) cs →
     let rs = recordsOf b in let es = stackAfter y rs [] cs in
     let first = textOf rs in let text = textOf (recordsOf (leftBy y (fresh y b) cs .block)) in
-    (length text ≡ length first)
-    × ((i : ℕ) → All (λ e. Outside i (bytesBefore rs e)) es → getD text i 0 ≡ getD first i 0)
-    × All (λ e. slice (bytesBefore rs e) (bytesBefore rs e + 6) text ≡ fieldOf (found (putIn rs es) e)) es
+    SameAt (λ i. All (λ e. Outside i (bytesBefore rs e)) es) text first
+    × All (λ e. Shows text (bytesBefore rs e) (found (putIn rs es) e)) es
 
 -- "undoing all gives back both buffers exactly", and no undo on the way is refused
 abbrev pub UndoneGivesBack : Type 0
