@@ -85,13 +85,13 @@ unfolding toBlock written
 written-accepted t out = by (readText t) refl (text-known t)
   where
     taken : (ws : List ℕ) → readText t ≡ passed ws → {w : Written} → let b = blockFrom ws in
-        (w ≡ leaves (answer 29 (length b) 0 0) out) ⊎ (w ≡ leaves (answer 0 (length b) 0 0) (b ++ drop (length b) out)) → w .answer .n ≡ 0 → Accepted (bytesIn w)
+        (w ≡ leaves (answer 29 (length b) 0 0) out) ⊎ (w ≡ leaves (answer 0 (length b) 0 0) (b ++ drop (length b) out)) → w .answer .n ≡ 0 → (length (bytesIn w) ≡ w .answer .a) × Accepted (bytesIn w)
     taken ws e (inl f) z = absurd (omega (arith, ap (λ x. x .answer .n) f))
     taken ws e (inr f) z =
         let g = text-gives-block t ws e in
-        rw (f, take-append-seam (blockFrom ws) (drop (length (blockFrom ws)) out)) (record { count = length (g .0); is = g .2 })
+        rw (f, take-append-seam (blockFrom ws) (drop (length (blockFrom ws)) out)) (refl, record { count = length (g .0); is = g .2 })
 
-    by : (v : Verdict (List ℕ)) → readText t ≡ v → Known TextRow (WordsFit 0) v → let w = written out (onward v (λ ws. passed (blockFrom ws))) in w .answer .n ≡ 0 → Accepted (bytesIn w)
+    by : (v : Verdict (List ℕ)) → readText t ≡ v → Known TextRow (WordsFit 0) v → let w = written out (onward v (λ ws. passed (blockFrom ws))) in w .answer .n ≡ 0 → (length (bytesIn w) ≡ w .answer .a) × Accepted (bytesIn w)
     by (refused r) e h z = absurd (omega (arith, h .listed .0))
     by (passed ws) e h z = taken ws e (written-either out (blockFrom ws)) z
 

@@ -1,13 +1,14 @@
 -- Demand 3 holds.
 use mathlib.Core.Path.{_≡_, refl, sym, ap, subst, _∙_}
+use mathlib.Core.Logic.{_↔_}
 use mathlib.Core.List.{List, [], _∷_, _++_, map}
-use Prim.Native.Nat.{ℕ, suc}
+use Prim.Native.Nat.{ℕ, suc, _≤_}
 use native.Mathlib.Omega.{arith}
 use lib.ListN.{length, replicate, length-append}
 use Rattle.units.specs.Answers.{answer, Verdict, passed, refused}
 use Rattle.words.specs.Words.{All, Below}
 use Rattle.words.specs.Outcomes.{written}
-use Rattle.words.proofs.Lists.{all-replicate, all-mapped}
+use Rattle.words.proofs.Lists.{all-parts, all-replicate, all-mapped}
 use Rattle.block.specs.Judging.{judged}
 use Rattle.block.specs.Records.{recordsOf}
 use Rattle.block.specs.Rules.{blockOf, IsBlock}
@@ -17,12 +18,13 @@ use Rattle.write_lines.proofs.Outcome.{when-accepted}
 use Rattle.sheet.specs.Sheets.{Layout, Entry, sheetOf}
 use Rattle.sheet.specs.Rules.{IsEntry}
 use Rattle.sheet.proofs.Sheets.{opened-sheet}
-use Rattle.amending.specs.Amending.{Both, both, amendable, undoable, leaving, onBoth}
+use Rattle.block_value.proofs.Named.{Named}
+use Rattle.amending.specs.Amending.{buffers, Both, both, amendable, undoable, leaving, onBoth, amend, undo}
 use Rattle.amending.proofs.Steps.{undo-empty}
-use Rattle.demands.specs.Demand3.{Call, amends, undoes, prints, ofBoth, done, doneAll, Buffers, leftBy, fresh, Takes, putIn, stacked, modelled, modelledAll, stackAfter, MayAmend, ModelRule, asBuffers, StandingPutIn, LastStands, LinesDiffer, UndoneGivesBack}
+use Rattle.demands.specs.Demand3.{Call, amends, undoes, prints, ofBoth, done, doneAll, Buffers, leftBy, fresh, Takes, putIn, stacked, modelled, modelledAll, stackAfter, MayAmend, success, AcceptanceRule, asBuffers, StandingPutIn, LastStands, LinesDiffer, UndoneGivesBack}
 use Rattle.demands.proofs.Values.{alike-count}
-use Rattle.demands.proofs.Stack.{putIn-append, putIn-alike, putIn-block, last-stands}
-use Rattle.demands.proofs.AmendedText.{text-size, stack-outside, stack-shows}
+use Rattle.demands.proofs.Stack.{Stack, stack-named, putIn-append, putIn-alike, putIn-block, last-stands}
+use Rattle.demands.proofs.AmendedText.{stack-apart, stack-shows}
 use Rattle.demands.proofs.Model.{Reached, none-reached, amend-either, amend-accepted, reached-on, reached-before, undo-last, from-end}
 
 -- ---- one call
@@ -63,10 +65,37 @@ module _ (y : Layout) (rs : List (List ℕ)) (good : IsBlock (blockOf rs) rs) wh
         amend-either y rs es (good .each) h e (Tracks y rs) (λ n a _. tt)
         (λ a. (sym (putIn-append rs es (e ∷ [])), reached-on y rs es (good .each) h e is a))
 
+    -- an amendment is accepted, and nothing else is
+    amended : (e : Entry) → MayAmend y rs es e → amend y e (blockOf ps) (sheetOf y es) ≡ success y rs (es ++ e ∷ [])
+    amended e a = on-both (amendable y e) ∙ ap (leaving y (blockOf ps) (sheetOf y es)) (amend-accepted y rs es (good .each) h e a)
+
+    amend-rule : (e : Entry) → (amend y e (blockOf ps) (sheetOf y es) .answer .n ≡ 0) ↔ MayAmend y rs es e
+    amend-rule e = (
+      λ z. amend-either y rs es (good .each) h e (λ v. leaving y (blockOf ps) (sheetOf y es) v .answer .n ≡ 0 → MayAmend y rs es e)
+          (λ n a l q. absurd (omega arith)) (λ a q. a) (sym (ap (λ o. o .answer .n) (on-both (amendable y e))) ∙ z),
+      λ a. ap (λ o. o .answer .n) (amended e a),
+    )
+
   undo-tracks : (es : List Entry) → Reached y rs es → Tracks y rs (undoable (both (putIn rs es) es))
   undo-tracks =
       from-end (λ es. Reached y rs es → Tracks y rs (undoable (both (putIn rs es) es))) (λ h. rw (undo-empty rs [] refl) tt)
       (λ before e _ h. rw (undo-last before e y rs (good .each) h) (refl, reached-before before e y rs (good .each) h))
+
+  -- the last amendment is undone, and nothing else is
+  undone : (before : List Entry) (e : Entry) → Reached y rs (before ++ e ∷ [])
+      → undo y (blockOf (putIn rs (before ++ e ∷ []))) (sheetOf y (before ++ e ∷ [])) ≡ success y rs before
+  undone before e h =
+      let es = before ++ e ∷ [] in
+      on-both es h undoable ∙ ap (leaving y (blockOf (putIn rs es)) (sheetOf y es)) (undo-last before e y rs (good .each) h)
+
+  none-undone : undo y (blockOf rs) (sheetOf y []) ≡ buffers (answer 45 0 0 0) (blockOf rs) (sheetOf y [])
+  none-undone = on-both [] (none-reached y rs) undoable ∙ ap (leaving y (blockOf rs) (sheetOf y [])) (undo-empty rs [] refl)
+
+  undo-rule : (es : List Entry) → Reached y rs es → (undo y (blockOf (putIn rs es)) (sheetOf y es) .answer .n ≡ 0) ↔ (1 ≤ length es)
+  undo-rule =
+      from-end (λ es. Reached y rs es → (undo y (blockOf (putIn rs es)) (sheetOf y es) .answer .n ≡ 0) ↔ (1 ≤ length es))
+      (λ h. (λ z. absurd (omega (arith, z, ap (λ o. o .answer .n) none-undone)), λ some. absurd (omega arith)))
+      (λ before e _ h. (λ z. omega (arith, length-append before (e ∷ [])), λ some. ap (λ o. o .answer .n) (undone before e h)))
 
   -- a call leaves what the model leaves, and that can be reached
   step : (es : List Entry) → Reached y rs es → (c : Call) → Takes y c
@@ -149,18 +178,25 @@ standing-put-in y b k cs bytes accepted takes =
 
 pub last-standing : LastStands
 last-standing y b k cs bytes accepted takes before after e q others =
-    rw q (last-stands (recordsOf b) before after e (first-good b k bytes accepted .each) (rw q at (left b k bytes accepted y cs takes .1 .stack)) others)
+    let rs = recordsOf b in
+    let good = first-good b k bytes accepted .each in
+    let s : Stack rs (before ++ e ∷ after) = rw q at (left b k bytes accepted y cs takes .1 .stack) in
+    let n = all-parts (Named rs) before (e ∷ after) (stack-named rs (before ++ e ∷ after) good s) .1 .0 in
+    (record { record-is = (n .least, n .most); value = n .value }, rw q (last-stands rs before after e good s others))
 
-pub model-rule : ModelRule
-model-rule y b k cs bytes accepted takes =
+pub acceptance-rule : AcceptanceRule
+acceptance-rule y b k cs bytes accepted takes =
     let rs = recordsOf b in
     let es = stackAfter y rs [] cs in
     let good = first-good b k bytes accepted in
-    let h = left b k bytes accepted y cs takes .1 in (
-      λ e a. ap (stacked es) (amend-accepted y rs es (good .each) h e a) ∙ ap (λ n. record { answer = answer 0 n 0 0; stack = es ++ e ∷ []; out = [] }) (length-append es (e ∷ [])),
-      λ e z. amend-either y rs es (good .each) h e (λ v. stacked es v .answer .n ≡ 0 → MayAmend y rs es e) (λ n a l q. absurd (omega arith)) (λ a q. a) z,
-      λ before e q. rw q (model-last y rs good before e (rw q at h)),
-      λ q. rw q (ap (stacked []) (undo-empty rs [] refl)),
+    let l = left b k bytes accepted y cs takes in
+    let h = l .1 in
+    rw (l .0) (
+      amend-rule y rs good es h,
+      undo-rule y rs good es h,
+      amended y rs good es h,
+      λ before e q. rw q (undone y rs good before e (rw q at h)),
+      λ q. rw q (none-undone y rs good),
     )
 
 pub undone-gives-back : UndoneGivesBack
@@ -187,4 +223,4 @@ lines-differ y b k cs bytes accepted takes =
     let s = l .1 .stack in
     let text : textOf (recordsOf (leftBy y (fresh y b) cs .block)) ≡ textOf ps =
     ap textOf (ap (λ q. recordsOf (q .block)) (l .0) ∙ its-records (blockOf ps) ps (still-block y rs good es (l .1))) in
-    rw text (text-size rs ps (putIn-alike rs es (good .each) s), stack-outside rs es (good .each) s, stack-shows rs es (good .each) s)
+    rw text (stack-apart rs es (good .each) s, stack-shows rs es (good .each) s)

@@ -1,6 +1,7 @@
 -- The promises of the text hold.
 use Rattle.record.proofs.Values.{is-data}
-use mathlib.Core.Path.{_≡_, refl, sym, ap, ap₂, _∙_}
+use mathlib.Core.Path.{_≡_, refl, sym, ap, ap₂, subst, _∙_}
+use mathlib.Core.Logic.{_⊎_}
 use mathlib.Core.Bool.{Bool, true, false}
 use mathlib.Core.List.{List, [], _∷_, _++_, append-assoc, append-nil}
 use Prim.Native.Nat.{ℕ, zero, suc, _+_, _-_, _*_, _/_, _%_, _≤_, _<_}
@@ -8,12 +9,13 @@ use native.Mathlib.Omega.{arith}
 use borrow.Author.Tests.{ltb-true, ltb-false}
 use lib.Dec.{ltb, eqb}
 use lib.ListN.{length, getD, take, drop, set, replicate, length-append, length-take, length-drop, length-replicate}
-use lib.Seq.{sets, sets-eq, drop-length, set-getD, getD-set-other, take-set-le, take-set-lt, drop-set-lt, drop-set-add, length-take-le}
+use lib.Seq.{sets, sets-eq, length-sets, drop-length, set-getD, getD-set-other, take-set-le, take-set-lt, drop-set-lt, drop-set-add, length-take-le}
 use Rattle.units.specs.Choice.{if_then_else_}
 use Rattle.words.specs.Words.{word, joined, All, Below, mostRecordWords}
 use Rattle.words.proofs.Lists.{all-append, all-replicate}
 use Rattle.words.proofs.Laws.{length-bytesOf}
-use Rattle.words.proofs.Stores.{sets-left, sets-right}
+use Rattle.words.proofs.Sealing.{slice-sets}
+use Rattle.words.proofs.Stores.{sets-left, sets-right, sets-outside}
 use Rattle.counts.specs.declared.Counts.{Counts}
 use Rattle.counts.specs.Counts.{countsOf, linesNeeded}
 use Rattle.record.specs.Lines.{lineCount}
@@ -31,7 +33,7 @@ use Rattle.write_lines.specs.Lines.{linesOf}
 use Rattle.write_lines.specs.Text.{textOf}
 use Rattle.write_lines.specs.Columns.{endsBefore, columnsBefore}
 use Rattle.write_lines.proofs.Sizes.{record-sized, text-bound, data-count, data-size, data-lines, cards-lines, data-is}
-use Rattle.demands.specs.Lines.{LineCount, LineWidth, TextBound, longest, TextReached, SixColumns, WordStands}
+use Rattle.demands.specs.Lines.{LineCount, LineWidth, TextBound, longest, TextReached, Shows, Outside, SameAt, WordStands, SixColumns}
 
 pub line-count : LineCount
 line-count r h = record-sized r h .lines
@@ -266,29 +268,61 @@ unfolding textOf
 text-append [] ss = refl
 text-append (r ∷ rs) ss = ap (λ t. ended (linesOf r) ++ t) (text-append rs ss) ∙ sym (append-assoc (ended (linesOf r)) (textOf rs) (textOf ss))
 
+-- a field put into six columns of a text
+module _ (t : List ℕ) (at v : ℕ) where
+  put-shows : at + 6 ≤ length t → Shows (sets t at (fieldOf v)) at v
+  put-shows h =
+      record {
+        inside = omega (arith, h, length-sets t at (fieldOf v));
+        columns = slice-sets t (fieldOf v) at (at + 6) (ap (λ n. at + n) (length-fieldOf v)) h;
+      }
+
+  put-apart : SameAt (λ i. Outside i at) (sets t at (fieldOf v)) t
+  put-apart =
+      record {
+        size = length-sets t at (fieldOf v);
+        bytes = λ i o. sets-outside t (fieldOf v) at i (subst (λ n. (i < at) ⊎ (at + n ≤ i)) (sym (length-fieldOf v)) o);
+      }
+
+-- among other records
+module _ (before after : List (List ℕ)) (r : List ℕ) (h : RecordOk r) (kind : word r 2 ≡ 1002) (j : ℕ) (low : 16 ≤ j) (high : j < length r) where
+  abbrev text : List ℕ → List ℕ
+  text q = textOf (before ++ q ∷ after)
+
+  abbrev at : ℕ
+  at = length (textOf before) + columnsBefore r j
+
+  -- the changed word's field is put into its columns
+  text-set : (v : ℕ) → text (set r j v) ≡ sets (text r) at (fieldOf v)
+  unfolding textOf
+  text-set v =
+      text-append before (set r j v ∷ after)
+      ∙ ap (λ t. textOf before ++ (t ++ textOf after)) (record-set r h kind j v low high)
+      ∙ ap (λ t. textOf before ++ t) (sym (sets-left (fieldOf v) (ended (linesOf r)) (textOf after) (columnsBefore r j) (column-room r h kind j v low high)))
+      ∙ sym (sets-right (fieldOf v) (textOf before) (ended (linesOf r) ++ textOf after) (columnsBefore r j))
+      ∙ ap (λ t. sets t at (fieldOf v)) (sym (text-append before (r ∷ after)))
+
+  -- which lie in the text
+  text-room : at + 6 ≤ length (text r)
+  unfolding textOf
+  text-room =
+      omega (
+        arith,
+        ap length (text-append before (r ∷ after)),
+        length-append (textOf before) (textOf (r ∷ after)),
+        length-append (ended (linesOf r)) (textOf after),
+        column-room r h kind j 0 low high,
+        length-fieldOf 0,
+      )
+
 pub six-columns : SixColumns
-unfolding textOf
 six-columns before after r h kind j v low high =
-    text-append before (set r j v ∷ after)
-    ∙ ap (λ t. textOf before ++ (t ++ textOf after)) (record-set r h kind j v low high)
-    ∙ ap (λ t. textOf before ++ t) (sym (sets-left (fieldOf v) (ended (linesOf r)) (textOf after) (columnsBefore r j) (column-room r h kind j v low high)))
-    ∙ sym (sets-right (fieldOf v) (textOf before) (ended (linesOf r) ++ textOf after) (columnsBefore r j))
-    ∙ ap (λ t. sets t (length (textOf before) + columnsBefore r j) (fieldOf v)) (sym (text-append before (r ∷ after)))
+    let t = textOf (before ++ r ∷ after) in
+    let at = length (textOf before) + columnsBefore r j in
+    rw (text-set before after r h kind j low high v) (put-shows t at v (text-room before after r h kind j low high), put-apart t at v)
 
--- those six columns lie in the text
-pub columns-inside : (before after : List (List ℕ)) (r : List ℕ) → RecordOk r → word r 2 ≡ 1002 → (j : ℕ) → 16 ≤ j → j < length r
-    → length (textOf before) + columnsBefore r j + 6 ≤ length (textOf (before ++ r ∷ after))
-unfolding textOf
-columns-inside before after r h kind j low high =
-    omega (
-      arith,
-      ap length (text-append before (r ∷ after)),
-      length-append (textOf before) (textOf (r ∷ after)),
-      length-append (ended (linesOf r)) (textOf after),
-      column-room r h kind j 0 low high,
-      length-fieldOf 0,
-    )
-
+-- a word put in where it stands changes nothing
 pub word-stands : WordStands
 word-stands before after r h kind j low high =
-    ap (λ q. textOf (before ++ q ∷ after)) (sym (set-getD r j 0)) ∙ six-columns before after r h kind j (getD r j 0) low high
+    let v = getD r j 0 in
+    subst (λ q. Shows (textOf (before ++ q ∷ after)) (length (textOf before) + columnsBefore r j) v) (set-getD r j 0) (six-columns before after r h kind j v low high .0)

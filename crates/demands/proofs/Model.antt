@@ -50,14 +50,16 @@ module _ (y : Layout) (rs : List (List ℕ)) (es : List Entry) (good : All Recor
     told room has value old =
         record {
           room = leb-false (y .limit) (length es) room;
-          record-is = (has .0, omega (arith, has .1, alike-count rs ps alike));
-          value = sym (alike-value rs ps alike (recordNumber e) (wordNumber e)) ∙ value;
+          place = record {
+            record-is = (has .0, omega (arith, has .1, alike-count rs ps alike));
+            value = sym (alike-value rs ps alike (recordNumber e) (wordNumber e)) ∙ value;
+          };
           old = sym old;
         }
 
     -- it names a value of the records as they are
     named : MayAmend y rs es e → Named ps e
-    named a = alike-named rs ps alike e (record { least = a .record-is .0; most = a .record-is .1; value = a .value })
+    named a = alike-named rs ps alike e (record { least = a .place .record-is .0; most = a .place .record-is .1; value = a .place .value })
 
     -- it is refused, or it is an amendment and stands last
     pub amend-either : (P : Verdict Both → Type 0) → ((n a : ℕ) → 0 < n → P (refused (answer n a 0 0)))
@@ -71,8 +73,8 @@ module _ (y : Layout) (rs : List (List ℕ)) (es : List Entry) (good : All Recor
         accepts (told room (is-record ps (recordNumber e) has) (not-false _ value) (eqb-true (oldValue e) (found ps e) (not-false _ old)))
 
     -- an amendment is not refused
-    pub amend-accepted : MayAmend y rs es e → amendable y e (both ps es) ≡ passed (both (withValue ps e (newValue e)) (es ++ e ∷ []))
-    amend-accepted a = amend-passes y e ps es (a .room) (named a) (sym (a .old))
+    pub amend-accepted : MayAmend y rs es e → amendable y e (both ps es) ≡ passed (both (putIn rs (es ++ e ∷ [])) (es ++ e ∷ []))
+    amend-accepted a = amend-passes y e ps es (a .room) (named a) (sym (a .old)) ∙ ap (λ qs. passed (both qs (es ++ e ∷ []))) (sym (putIn-append rs es (e ∷ [])))
 
     -- and the stack can be reached with it
     pub reached-on : IsEntry y e → MayAmend y rs es e → Reached y rs (es ++ e ∷ [])

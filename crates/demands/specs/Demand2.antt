@@ -56,9 +56,9 @@ TextGivesBlock =
     (t ws : List ℕ) → readText t ≡ passed ws →
     (rs : List (List ℕ)) × IsBlock (blockFrom ws) rs × (judged (blockFrom ws) ≡ passed (length rs))
 
--- so the bytes that lines to block says it has written are a block that the judge accepts
+-- so the bytes that lines to block says it has written are there, and are a block that the judge accepts
 abbrev pub WrittenAccepted : Type 0
-WrittenAccepted = (t out : List ℕ) → toBlock t out .answer .n ≡ 0 → Accepted (bytesIn (toBlock t out))
+WrittenAccepted = (t out : List ℕ) → let w = toBlock t out in w .answer .n ≡ 0 → (length (bytesIn w) ≡ w .answer .a) × Accepted (bytesIn w)
 
 -- accepted lines to block and back become the standard lines, and these give the same block
 abbrev pub LinesBlockLines : Type 0

@@ -2,12 +2,11 @@
 -- amendments put in, oldest first, its checksum fresh; its lines differ only in the amended six columns; undoing all gives
 -- back both buffers exactly."
 use mathlib.Core.Path.{_≡_}
-use mathlib.Core.Logic.{_⊎_}
+use mathlib.Core.Logic.{_↔_}
 use mathlib.Core.Bool.{true}
 use mathlib.Core.List.{List, [], _∷_, _++_, map}
 use Prim.Native.Nat.{ℕ, _+_, _-_, _≤_, _<_}
-use lib.ListN.{length, getD, take, replicate}
-use lib.Seq.{slice}
+use lib.ListN.{length, take, replicate}
 use Rattle.units.specs.declared.Answer.{Answer}
 use Rattle.units.specs.Answers.{answer, Verdict, passed, refused}
 use Rattle.words.specs.Words.{All, Below}
@@ -16,13 +15,13 @@ use Rattle.record.specs.Values.{isValue}
 use Rattle.block.specs.Judging.{judged}
 use Rattle.block.specs.Records.{recordsOf}
 use Rattle.block.specs.Rules.{blockOf}
-use Rattle.field.specs.Writing.{fieldOf}
 use Rattle.write_lines.specs.Text.{textOf, toLines}
 use Rattle.write_lines.specs.Columns.{columnsBefore}
 use Rattle.sheet.specs.Sheets.{Layout, Entry, sheetOf}
 use Rattle.sheet.specs.Rules.{IsEntry}
 use Rattle.block_value.specs.Places.{recordNumber, wordNumber, oldValue, newValue, recordIn, found, withValue}
-use Rattle.amending.specs.Amending.{Outcome, Both, both, amendable, undoable, amend, undo}
+use Rattle.amending.specs.Amending.{Outcome, buffers, Both, both, amendable, undoable, amend, undo}
+use Rattle.demands.specs.Lines.{Outside, Shows, SameAt}
 
 -- ---- the calls
 
@@ -108,24 +107,33 @@ abbrev pub stackAfter : Layout → List (List ℕ) → List Entry → List Call 
 stackAfter y rs es [] = es
 stackAfter y rs es (c ∷ cs) = stackAfter y rs (modelled y rs es c .stack) cs
 
+-- an entry that names a "value place": rows 41 and 42, the other way round
+pub record NamesValuePlace (rs : List (List ℕ)) (e : Entry) : Type 0 where
+  pub record-is : (1 ≤ recordNumber e) × (recordNumber e ≤ length rs)
+  pub value : isValue (recordIn rs (recordNumber e)) (wordNumber e) ≡ true
+
 -- "the stated old value stands, in the block so amended, at a value place", and there is room
 pub record MayAmend (y : Layout) (rs : List (List ℕ)) (es : List Entry) (e : Entry) : Type 0 where
   pub room : length es < y .limit
-  pub record-is : (1 ≤ recordNumber e) × (recordNumber e ≤ length rs)
-  pub value : isValue (recordIn rs (recordNumber e)) (wordNumber e) ≡ true
+  pub place : NamesValuePlace rs e
   pub old : found (putIn rs es) e ≡ oldValue e
 
 -- ---- the demand, from an accepted block of k records and an empty sheet
 
--- the rule of acceptance: amend succeeds exactly when `MayAmend` holds, and its entry then stands last; undo exactly when an entry stands, and it takes the last
-abbrev pub ModelRule : Type 0
-ModelRule =
+-- "Success is n = 0 with a = ... standing amendments": these stand, the block has them put in, and the sheet is theirs
+abbrev pub success : Layout → List (List ℕ) → List Entry → Outcome
+success y rs es = buffers (answer 0 (length es) 0 0) (blockOf (putIn rs es)) (sheetOf y es)
+
+-- the rule of acceptance, after "Amend and undo, in any sequence, refused ones among them": exactly when each succeeds, and what it then leaves
+abbrev pub AcceptanceRule : Type 0
+AcceptanceRule =
     (y : Layout) (b : List ℕ) (k : ℕ) (cs : List Call) → Below 256 b → judged b ≡ passed k → All (Takes y) cs →
-    let rs = recordsOf b in let es = stackAfter y rs [] cs in
-    ((e : Entry) → MayAmend y rs es e → modelled y rs es (amends e) ≡ record { answer = answer 0 (length es + 1) 0 0; stack = es ++ e ∷ []; out = [] })
-    × ((e : Entry) → modelled y rs es (amends e) .answer .n ≡ 0 → MayAmend y rs es e)
-    × ((before : List Entry) (e : Entry) → es ≡ before ++ e ∷ [] → modelled y rs es undoes ≡ record { answer = answer 0 (length before) 0 0; stack = before; out = [] })
-    × (es ≡ [] → modelled y rs es undoes ≡ record { answer = answer 45 0 0 0; stack = []; out = [] })
+    let rs = recordsOf b in let es = stackAfter y rs [] cs in let p = leftBy y (fresh y b) cs in
+    ((e : Entry) → (amend y e (p .block) (p .sheet) .answer .n ≡ 0) ↔ MayAmend y rs es e)
+    × ((undo y (p .block) (p .sheet) .answer .n ≡ 0) ↔ (1 ≤ length es))
+    × ((e : Entry) → MayAmend y rs es e → amend y e (p .block) (p .sheet) ≡ success y rs (es ++ e ∷ []))
+    × ((before : List Entry) (e : Entry) → es ≡ before ++ e ∷ [] → undo y (p .block) (p .sheet) ≡ success y rs before)
+    × (es ≡ [] → undo y (p .block) (p .sheet) ≡ buffers (answer 45 0 0 0) (p .block) (p .sheet))
 
 -- what the calls leave where the model leaves this
 abbrev pub asBuffers : Layout → List (List ℕ) → Modelled → Done
@@ -145,20 +153,17 @@ StandingPutIn =
 abbrev pub Elsewhere : Entry → Entry → Type 0
 Elsewhere e f = recordNumber f ≡ recordNumber e → wordNumber f ≡ wordNumber e → ⊥
 
--- the value that stands at a place is the new one of the last entry that names it
+-- the value that stands at a value place is the new one of the last entry that names it
 abbrev pub LastStands : Type 0
 LastStands =
     (y : Layout) (b : List ℕ) (k : ℕ) (cs : List Call) → Below 256 b → judged b ≡ passed k → All (Takes y) cs →
     let rs = recordsOf b in let es = stackAfter y rs [] cs in
-    (before after : List Entry) (e : Entry) → es ≡ before ++ e ∷ after → All (Elsewhere e) after → found (putIn rs es) e ≡ newValue e
+    (before after : List Entry) (e : Entry) → es ≡ before ++ e ∷ after → All (Elsewhere e) after →
+    NamesValuePlace rs e × (found (putIn rs es) e ≡ newValue e)
 
 -- how many bytes of the text stand before the six columns of the number that an entry names: the records' before, and its own record's
 abbrev pub bytesBefore : List (List ℕ) → Entry → ℕ
 bytesBefore rs e = length (textOf (take (recordNumber e - 1) rs)) + columnsBefore (recordIn rs (recordNumber e)) (wordNumber e - 1)
-
--- a byte that is none of the six from `before` on
-abbrev pub Outside : ℕ → ℕ → Type 0
-Outside i before = (i < before) ⊎ (before + 6 ≤ i)
 
 -- "its lines differ only in the amended six columns", which show the value that stands
 abbrev pub LinesDiffer : Type 0
@@ -166,9 +171,8 @@ LinesDiffer =
     (y : Layout) (b : List ℕ) (k : ℕ) (cs : List Call) → Below 256 b → judged b ≡ passed k → All (Takes y) cs →
     let rs = recordsOf b in let es = stackAfter y rs [] cs in
     let first = textOf rs in let text = textOf (recordsOf (leftBy y (fresh y b) cs .block)) in
-    (length text ≡ length first)
-    × ((i : ℕ) → All (λ e. Outside i (bytesBefore rs e)) es → getD text i 0 ≡ getD first i 0)
-    × All (λ e. slice (bytesBefore rs e) (bytesBefore rs e + 6) text ≡ fieldOf (found (putIn rs es) e)) es
+    SameAt (λ i. All (λ e. Outside i (bytesBefore rs e)) es) text first
+    × All (λ e. Shows text (bytesBefore rs e) (found (putIn rs es) e)) es
 
 -- "undoing all gives back both buffers exactly", and no undo on the way is refused
 abbrev pub UndoneGivesBack : Type 0

@@ -1,9 +1,10 @@
 -- Document 01, "The lines": what is promised of the text of a block.
 use mathlib.Core.Path.{_≡_}
+use mathlib.Core.Logic.{_⊎_}
 use mathlib.Core.List.{List, [], _∷_, _++_}
 use Prim.Native.Nat.{ℕ, _+_, _≤_, _<_}
 use lib.ListN.{length, getD, set, replicate}
-use lib.Seq.{sets}
+use lib.Seq.{slice}
 use Rattle.words.specs.Words.{word, All, Below}
 use Rattle.record.specs.Lines.{lineCount}
 use Rattle.record.specs.Rules.{RecordOk}
@@ -35,14 +36,32 @@ longest = 7998 ∷ 1002 ∷ replicate 10 0 ++ (16 ∷ 0 ∷ 1 ∷ 7981 ∷ repli
 abbrev pub TextReached : Type 0
 TextReached = let b = blockOf (longest ∷ []) in Accepted b × (length (textOf (recordsOf b)) ≡ 55971)
 
--- a word of a Data record behind its counts, changed: the text differs in that word's six columns only
-abbrev pub SixColumns : Type 0
-SixColumns =
-    (before after : List (List ℕ)) (r : List ℕ) → RecordOk r → word r 2 ≡ 1002 → (j v : ℕ) → 16 ≤ j → j < length r →
-    textOf (before ++ set r j v ∷ after) ≡ sets (textOf (before ++ r ∷ after)) (length (textOf before) + columnsBefore r j) (fieldOf v)
+-- ---- a word and its six columns
 
--- and there stands the word's own field
+-- "A number field is six columns": those of the text with `at` bytes before them are there, and show this word
+pub record Shows (text : List ℕ) (at w : ℕ) : Type 0 where
+  pub inside : at + 6 ≤ length text
+  pub columns : slice at (at + 6) text ≡ fieldOf w
+
+-- a byte that is none of the six with `at` bytes before them
+abbrev pub Outside : ℕ → ℕ → Type 0
+Outside i at = (i < at) ⊎ (at + 6 ≤ i)
+
+-- two texts, equally long, with the same bytes at all places of this kind
+pub record SameAt (Here : ℕ → Type 0) (text first : List ℕ) : Type 0 where
+  pub size : length text ≡ length first
+  pub bytes : (i : ℕ) → Here i → getD text i 0 ≡ getD first i 0
+
+-- the six columns of a word of a Data record behind its counts show that word
 abbrev pub WordStands : Type 0
 WordStands =
     (before after : List (List ℕ)) (r : List ℕ) → RecordOk r → word r 2 ≡ 1002 → (j : ℕ) → 16 ≤ j → j < length r →
-    textOf (before ++ r ∷ after) ≡ sets (textOf (before ++ r ∷ after)) (length (textOf before) + columnsBefore r j) (fieldOf (getD r j 0))
+    Shows (textOf (before ++ r ∷ after)) (length (textOf before) + columnsBefore r j) (getD r j 0)
+
+-- where it is changed, they show the new word, and the text differs in them only
+abbrev pub SixColumns : Type 0
+SixColumns =
+    (before after : List (List ℕ)) (r : List ℕ) → RecordOk r → word r 2 ≡ 1002 → (j v : ℕ) → 16 ≤ j → j < length r →
+    let first = textOf (before ++ r ∷ after) in let text = textOf (before ++ set r j v ∷ after) in
+    let at = length (textOf before) + columnsBefore r j in
+    Shows text at v × SameAt (λ i. Outside i at) text first
