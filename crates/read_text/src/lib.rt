@@ -10,7 +10,7 @@ ghost use mathlib.Core.Path.{_≡_};
 ghost use mathlib.Core.List.{[]};
 ghost use Prim.Native.Nat.{_≤_, _<_, _^_};
 ghost use lib.ListN.{length};
-ghost use Rattle.units.specs.Answers.{Packs};
+ghost use Rattle.units.specs.Answers.{answered, Packs};
 ghost use Rattle.words.specs.Outcomes.{leaves};
 ghost use Rattle.read_cut.specs.Lines.{linesIn};
 ghost use Rattle.read_line.specs.Lines.{readLines};
@@ -95,6 +95,25 @@ pub fn judge(text: &[u8]) -> Content
     }
     let mut nothing = [0u8; 0];
     read_lines(text, &mut nothing)
+}
+
+// The four numbers of what is found of a text.
+pub fn content_numbers(c: Content) -> Answer
+    requires { ⌜ Packs (answered (contentOf c)) ⌝ }
+    ensures { λ r. ⌜ (r ≡ answered (contentOf c)) × (r .a < 2 ^ 24) ⌝ }
+{
+    match c {
+        Content::RecordWords(n) => {
+            let words = n.0;
+            Answer {
+                n: 0,
+                a: words as u32,
+                b: 0,
+                c: 0,
+            }
+        }
+        Content::Flawed(f) => read_columns::numbers(f),
+    }
 }
 
 // Writes the block of an accepted text that has `records` record words, if the lent block has room for it.
