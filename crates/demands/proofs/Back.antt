@@ -16,6 +16,7 @@ use Rattle.words.proofs.Scans.{scan-take, pass-all}
 use Rattle.words.proofs.Lists.{all-getD}
 use Rattle.field.specs.declared.Number.the-variants.{Bad}
 use Rattle.field.specs.Reading.{columns, readField}
+use Rattle.field.proofs.Exact.{field-read}
 use Rattle.units.proofs.Choosing.{by-test, both-ways}
 use Rattle.units.specs.Units.{Line}
 use Rattle.read_columns.specs.Columns.{plainLine, isBlank, blankTo, blankAfter, blankLine, wordIn, number, fieldNumbers, blankField, zeroField, zeroFields}
@@ -63,7 +64,7 @@ is-first-line num held l w h =
     (λ t. absurd (never (blank-bad l (all-blank l (omega (arith, leb-true (length l) (blankTo 0 l) t)))))) (λ _. refl)
   where
     never : readField (columns 6 l 0) ≡ Bad → ⊥
-    never b = let z : _≡_ {A = ℕ} 0 1 = cc in omega arith
+    never b = let z : _≡_ {A = ℕ} 0 1 = cc (field-read h) in omega arith
 
 -- ---- the words on a line of fields
 
@@ -76,7 +77,7 @@ spells-drop l k (suc n) (w ∷ ws) h = let e : k + suc n ≡ suc k + n = omega a
 module _ (num : ℕ) (l : Line) where
   number-back : (k w : ℕ) → Spells l k w → number num l k ≡ passed w
   unfolding number
-  number-back k w h = ap (wordIn num k) h
+  number-back k w h = ap (wordIn num k) (field-read h)
 
   numbers-from : (k m : ℕ) (ws : List ℕ) → SpellsAll l k ws → m ≤ length ws → fieldNumbers num l k m ≡ passed (take m ws)
   unfolding fieldNumbers

@@ -15,11 +15,9 @@ use Rattle.words.proofs.Laws.{length-bytesOf, words-bytes, getD-below}
 use Rattle.counts.specs.Counts.{countsOf}
 use Rattle.record.specs.Lines.{lineCount}
 use Rattle.record.specs.Rules.{CardWord, CardsOk, KindOk, catalogue, header, dataRecord, RecordOk}
-use Rattle.field.specs.declared.Number.the-variants.{Word}
 use Rattle.field.specs.Writing.{fieldOf, FieldByte, blank, minus, figure}
-use Rattle.field.specs.Reading.{columns, readField}
-use Rattle.field.proofs.Written.{length-fieldOf, bytes-fieldOf}
-use Rattle.field.proofs.Back.{read-written}
+use Rattle.field.specs.Reading.{columns}
+use Rattle.field.proofs.Written.{length-fieldOf, bytes-fieldOf, written-field}
 use Rattle.units.proofs.Choosing.{both-ways}
 use Rattle.write_parts.specs.Laid.{fieldsOf, laid, cardLines, ended}
 use Rattle.line_plan.specs.Plan.{dataPlan, kindShown, shownWords}
@@ -105,7 +103,7 @@ nothing-behind l c h = rw (drop-of-length-le l {i = c} h) tt
 module _ (ws : List ℕ) (below : Below 65536 ws) where
   -- its fields spell its words
   word-spelled : (k : ℕ) → k < length ws → Spells (fieldsOf ws) k (getD ws k 0)
-  word-spelled k h = ap readField (field-at ws k h) ∙ read-written (getD ws k 0) (getD-below 65536 ws k (omega arith) below)
+  word-spelled k h = rw (field-at ws k h) (written-field (getD ws k 0) (getD-below 65536 ws k (omega arith) below))
 
   spelled-from : (m k : ℕ) → k + m ≡ length ws → SpellsAll (fieldsOf ws) k (drop k ws)
   spelled-from zero k h = rw (drop-of-length-le ws {i = k} (omega arith)) tt
@@ -184,7 +182,7 @@ module _ (r : List ℕ) (h : RecordOk r) where
         λ k from to. getD-take 20 (shownWords r) k 0 to ∙ shown-same k (omega arith) ∙ zero-word (z - 1) r (c .zeros) k from (omega arith) in
         record {
           free = rw (take-take (z - 1) 20 (shownWords r) (omega arith)) at (spells-take (fieldsOf row) 0 (z - 1) row (fields-spell row below));
-          zeros = λ k from to. inr (word-spelled row below k (omega arith) ∙ ap (λ w. Word w) (zero k from to));
+          zeros = λ k from to. inr (rw (zero k from to) at (word-spelled row below k (omega arith)));
           cards = cards-spell (lineCount r - 1) (drop 40 r) (omega (arith, length-drop 40 r, c .size));
         }
 

@@ -14,6 +14,7 @@ use Rattle.counts.specs.Counts.{countsOf}
 use Rattle.record.specs.Lines.{lineCount}
 use Rattle.record.specs.Rules.{RecordOk}
 use Rattle.block.proofs.Exact.{ok-long}
+use Rattle.field.proofs.Exact.{field-read, field-said}
 use Rattle.line_plan.specs.Plan.{dataPlan, kindShown, shownWords}
 use Rattle.units.specs.Units.{Line}
 use Rattle.read_first_line.specs.FirstLine.{Shape, card, fields, gives}
@@ -21,7 +22,7 @@ use Rattle.read_line.specs.Lines.{inState, atEnd, readLines}
 use Rattle.read_text.specs.Block.{readText}
 use Rattle.read_text.specs.Spelled.{Readable, LineSpells, LinesSpell, a-line, RecordSpelled, as-catalogue, as-header, as-data, Spelled, at-end, blank-line, a-record}
 use Rattle.read_text.proofs.Opened.{plan-turn}
-use Rattle.demands.specs.Texts.{IsText, TextsExactly}
+use Rattle.demands.specs.Texts.{FieldsExactly, IsText, TextsExactly}
 use Rattle.demands.proofs.Back.{ahead, line-back, skip-back, joins, lines-back}
 use Rattle.demands.proofs.FirstLine.{catalogue-given, header-given, data-given}
 use Rattle.demands.proofs.Sound.{its-text}
@@ -111,6 +112,9 @@ pub text-read : (t : List ℕ) (rs : List (List ℕ)) → IsText t rs → readTe
 unfolding readText
 text-read t rs g =
     simp (le-ltb 65536 (length t) (g .size)) (spelled-back 1 0 (g .spelled) (g .lines) (g .each) (omega (arith, g .most)) (omega (arith, g .some)))
+
+pub fields-exactly : FieldsExactly
+fields-exactly bs w = (λ e. field-said e, λ f. field-read f)
 
 pub texts-exactly : TextsExactly
 texts-exactly t ws = (λ e. its-text t ws e, λ g. text-read t (g .0) (g .1) ∙ ap (λ l. passed l) (sym (g .2)))

@@ -7,9 +7,16 @@ use lib.ListN.{length}
 use Rattle.units.specs.Answers.{passed}
 use Rattle.words.specs.Words.{joined, All, mostRecordWords}
 use Rattle.record.specs.Rules.{RecordOk}
+use Rattle.field.specs.declared.Number.the-variants.{Word}
+use Rattle.field.specs.Reading.{readField}
+use Rattle.field.specs.Grammar.{IsField}
 use Rattle.read_cut.specs.Lines.{linesIn}
 use Rattle.read_text.specs.Block.{readText}
 use Rattle.read_text.specs.Spelled.{Readable, Spelled}
+
+-- a field is read as a word exactly where the grammar has it as a field of that word
+abbrev pub FieldsExactly : Type 0
+FieldsExactly = (bs : List ℕ) (w : ℕ) → (readField bs ≡ Word w) ↔ IsField bs w
 
 -- this text is one of these records: at most 65,536 bytes, whose lines are the records in some spelling with blank lines around them
 pub record IsText (t : List ℕ) (rs : List (List ℕ)) : Type 0 where

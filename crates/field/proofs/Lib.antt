@@ -2,4 +2,4 @@ pub mod Digits
 pub mod Putting
 pub mod Written
 pub mod Columns
-pub mod Back
+pub mod Exact

@@ -15,7 +15,7 @@ use Rattle.field.proofs.Digits.{two-digits, three-digits, four-digits, 
 -- ---- a word's sign
 
 -- a blank behind the others is one more before them
-blank-more : (k : ℕ) (l : List ℕ) → blanks k ++ (32 ∷ l) ≡ blanks (suc k) ++ l
+pub blank-more : (k : ℕ) (l : List ℕ) → blanks k ++ (32 ∷ l) ≡ blanks (suc k) ++ l
 blank-more zero l = refl
 blank-more (suc k) l = ap (λ r. 32 ∷ r) (blank-more k l)
 

@@ -1,3 +1,4 @@
 pub mod Writing
 pub mod Putting
 pub mod Reading
+pub mod Grammar

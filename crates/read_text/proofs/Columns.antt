@@ -1,9 +1,9 @@
 -- What the columns of a line tell: its bytes, its number fields, its blanks.
-use mathlib.Core.Path.{_≡_, refl, ap, _∙_}
+use mathlib.Core.Path.{_≡_, refl, ap}
 use mathlib.Core.Bool.{Bool, true, false}
 use mathlib.Core.Logic.{inl, inr}
 use mathlib.Core.List.{List, [], _∷_}
-use Prim.Native.Nat.{ℕ, zero, suc, _+_, _-_, _*_, _/_, _%_, _^_, _≤_, _<_, min}
+use Prim.Native.Nat.{ℕ, zero, suc, _+_, _*_, _/_, _%_, _^_, _≤_, _<_, min}
 use native.Mathlib.Omega.{arith}
 use borrow.Author.Tests.{ltb-false, leb-true, eqb-true, eqb-false}
 use lib.Dec.{ltb, leb, eqb}
@@ -18,9 +18,9 @@ use Rattle.read_columns.proofs.Columns.{part-columns}
 use Rattle.record.specs.Rules.{CardWord}
 use Rattle.field.specs.declared.Number.{Number}
 use Rattle.field.specs.declared.Number.the-variants.{Word, Bad}
-use Rattle.field.specs.declared.Scan.{Scan}
-use Rattle.field.specs.declared.Scan.the-variants.{Blank, Sign, Digits, Spoiled}
-use Rattle.field.specs.Reading.{finishOf, scanOf, readField, columns}
+use Rattle.field.specs.Reading.{readField, columns}
+use Rattle.field.specs.Grammar.{SignedWord, not-negative, negative, minus-zero}
+use Rattle.field.proofs.Exact.{field-said}
 use Rattle.units.specs.Units.{Line, columnsOfFields}
 use Rattle.read_columns.specs.Columns.{rightTo, plainLine, isBlank, blankTo, blankAfter, columnOf, wordIn, number, fieldNumbers, blankField, zeroField, zeroFields}
 use Rattle.read_text.specs.Spelled.{PlainByte, Readable, Blanks, Spells, SpellsAll, SpellsZero}
@@ -68,21 +68,10 @@ card-words (x ∷ y ∷ r) h =
 
 -- ---- number fields
 
--- a field's number is a word
-abbrev IsWord : Number → Type 0
-IsWord (Word w) = w < 65536
-IsWord Bad = Unit {0}
-
-finish-fits : (s : Scan) → IsWord (finishOf s)
-finish-fits Blank = tt
-finish-fits (Sign minus) = tt
-finish-fits (Digits true m) = by-test IsWord (leb m 32768) (Word ((65536 - m) % 65536)) Bad (λ _. omega arith) (λ _. tt)
-finish-fits (Digits false m) = by-test IsWord (leb m 32767) (Word m) Bad (λ t. omega (arith, leb-true m 32767 t)) (λ _. tt)
-finish-fits Spoiled = tt
-
-read-fits : (bs : List ℕ) → IsWord (readField bs)
-unfolding readField
-read-fits bs = finish-fits (scanOf Blank bs)
+word-fits : {minus : Bool} {m w : ℕ} → SignedWord minus m w → w < 65536
+word-fits (not-negative h) = omega arith
+word-fits (negative k h) = omega arith
+word-fits minus-zero = omega arith
 
 -- the words of m fields, those after the first k
 pub record WordsRead (l : Line) (k m : ℕ) (ws : List ℕ) : Type 0 where
@@ -91,7 +80,7 @@ pub record WordsRead (l : Line) (k m : ℕ) (ws : List ℕ) : Type 0 where
 
 pub spelled-below : (l : Line) (k : ℕ) (ws : List ℕ) → SpellsAll l k ws → Below 65536 ws
 spelled-below l k [] h = tt
-spelled-below l k (w ∷ ws) h = (rw (h .0) at (read-fits (columns 6 l (6 * k))), spelled-below l (suc k) ws (h .1))
+spelled-below l k (w ∷ ws) h = (word-fits (h .0 .value), spelled-below l (suc k) ws (h .1))
 
 -- ---- blanks
 
@@ -112,7 +101,7 @@ module _ (num : ℕ) (hn : num < 2 ^ 24) (l : Line) where
   number-known k h = by (readField (columns 6 l (6 * k))) refl
     where
       by : (n : Number) → readField (columns 6 l (6 * k)) ≡ n → Known TextRow (Spells l k) (wordIn num k n)
-      by (Word w) e = e
+      by (Word w) e = field-said e
       by Bad e = told 22 num (columnOf k) (omega arith) hn (omega arith)
 
   pub numbers-known : (k m : ℕ) → k + m ≤ mostWords → Known TextRow (WordsRead l k m) (fieldNumbers num l k m)
@@ -128,7 +117,7 @@ module _ (num : ℕ) (hn : num < 2 ^ 24) (l : Line) where
   zero-known k h =
       by-test (Known TextRow Z) (blankField l k) (passed tt) _ (λ t. inl (blank-field l k t))
       (λ _. then-known TextRow (Spells l k) Z (number num l k) _ (number-known k h)
-      (λ w s. by-test (Known TextRow Z) (eqb w 0) (passed tt) (refused (answer 26 num (columnOf k) 0)) (λ t. inr (s ∙ ap (λ v. Word v) (eqb-true w 0 t))) (λ _. told 26 num (columnOf k) (omega arith) hn (omega arith))))
+      (λ w s. by-test (Known TextRow Z) (eqb w 0) (passed tt) (refused (answer 26 num (columnOf k) 0)) (λ t. inr (rw (eqb-true w 0 t) at s)) (λ _. told 26 num (columnOf k) (omega arith) hn (omega arith))))
     where
       Z : Unit {0} → Type 0
       Z _ = SpellsZero l k

@@ -7,8 +7,8 @@ use lib.ListN.{length, take, drop, replicate}
 use Rattle.units.specs.Units.{columnsOfFields, Line}
 use Rattle.words.specs.Words.{word, wordsOf, All}
 use Rattle.record.specs.Lines.{lineCount}
-use Rattle.field.specs.declared.Number.the-variants.{Word}
-use Rattle.field.specs.Reading.{readField, columns}
+use Rattle.field.specs.Reading.{columns}
+use Rattle.field.specs.Grammar.{IsField}
 use Rattle.line_plan.specs.Plan.{dataPlan, shownWords}
 use Rattle.read_first_line.specs.FirstLine.{Shape, card, fields}
 
@@ -26,9 +26,9 @@ pub record Readable (l : Line) : Type 0 where
 abbrev pub Blanks : Line → Type 0
 Blanks l = All (λ b. b ≡ 32) l
 
--- the field with k fields before it: "blanks, then at most one sign, then digits to its last column"; "Columns that a line lacks are blank"
+-- the six columns of the field with k fields before it: "blanks, then at most one sign, then digits to its last column"; "Columns that a line lacks are blank"
 abbrev pub Spells : Line → ℕ → ℕ → Type 0
-Spells l k w = readField (columns 6 l (columnsOfFields k)) ≡ Word w
+Spells l k w = IsField (columns 6 l (columnsOfFields k)) w
 
 -- that field and those after it spell these words
 abbrev pub SpellsAll : Line → ℕ → List ℕ → Type 0
