@@ -95,7 +95,7 @@ cardsLine lines kind = fieldsOf (lines ∷ kind ∷ replicate 10 0)
 
 -- a Header's further fields that are free, 13 to 15
 abbrev pub freeFields : Line
-freeFields = fieldsOf (0 ∷ 0 ∷ 0 ∷ [])
+freeFields = fieldsOf (1 ∷ 1 ∷ 1 ∷ [])
 
 -- ---- sheets
 

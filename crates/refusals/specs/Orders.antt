@@ -1,7 +1,9 @@
 -- Document 01, "Answer numbers": "A refusal is given exactly when its row holds and none before it in the order does; otherwise the call succeeds."
--- For each order an input that passes, and changes of it in the paper's order, each of which makes a row hold. Of each two the first is told, and where it is mended the other.
--- No input has both of these: 5 with 7 to 9, and 23 with what follows it on that line, since the kind says what is asked; 7 or 8 with 9, of other kinds; 4 with 8, and with 9's words 16 and 1, which are lacking;
--- 21 with 22 to 28, since a line that is not blank begins a record; 25 with a row of the line that is lacking; 45 with 46, since no entry is the last. Where one of these stands beside the other the later shows when the first is mended.
+-- For each order an input that passes, and changes of it in the paper's order, each of which makes a row hold. Of each two that are made the
+-- first is told, and where it is mended the other. These never hold on one input, and there the later one shows only when the first is mended:
+-- 5 with 7 to 9, 23 with the rows behind it on the line (the kind says what is asked), 7 or 8 with 9 (other kinds);
+-- 4 with 8, with a Header's 7, with 9's words 16 and 1 (these words are lacking), 25 with a row of the line that is lacking;
+-- 21 with 22 to 28 (a line that is not blank begins a record), 45 with 46 (no entry is the last), 29 with a row before it (what is needed is not known).
 use Prim.Native.Nat.{ℕ, _+_, _-_, _<_}
 use mathlib.Core.Path.{_≡_}
 use mathlib.Core.List.{List, [], _∷_, _++_, map}
@@ -88,14 +90,14 @@ cardsOrder z =
     ∷ (none, answer 0 1 0 0)
     ∷ []
 
--- of two Data records, of a Catalogue behind one, of a Catalogue with a card, of a Header with one
+-- of two Data records, of a Catalogue behind one, of a Catalogue with a card, of a Header with one, whose word 15 is free
 unfoldable pub blockOrders : List Trial
 unfolding frameOrder twoDataOrder shortCatalogueOrder cardsOrder everyTwo
 blockOrders =
     everyTwo judgeBlock (blockFrom (leastRecord ++ leastRecord)) (frameOrder ++ twoDataOrder)
     ++ everyTwo judgeBlock (blockFrom (leastRecord ++ cardsOf 2001 [])) (frameOrder ++ shortCatalogueOrder)
     ++ everyTwo judgeBlock (blockFrom (cardsOf 2001 blankCard)) (frameOrder ++ cardsOrder 13)
-    ++ everyTwo judgeBlock (blockFrom (cardsOf 3002 blankCard)) (frameOrder ++ cardsOrder 16)
+    ++ everyTwo judgeBlock (blockFrom (inPlace 15 1 (cardsOf 3002 blankCard))) (frameOrder ++ cardsOrder 16)
 
 -- ---- conversions
 
@@ -221,20 +223,20 @@ LongFirst =
 
 -- ---- "Amend: block, 40, 44, 41, 42, 43. Undo: block, 40, 45, 46"
 
--- what amend is lent, and undo without the four numbers
-pub record Amendment : Type 0 where
+-- what amend is lent: a block, its sheet and the four numbers; undo takes none
+pub record BlockSheet : Type 0 where
   pub block : List ℕ
   pub sheet : List ℕ
   pub entry : Entry
 
 -- another block, another sheet, other numbers
-abbrev pub inBlock : (List ℕ → List ℕ) → Amendment → Amendment
+abbrev pub inBlock : (List ℕ → List ℕ) → BlockSheet → BlockSheet
 inBlock f a = record { block = f (a .block); sheet = a .sheet; entry = a .entry }
 
-abbrev pub inSheet : (List ℕ → List ℕ) → Amendment → Amendment
+abbrev pub inSheet : (List ℕ → List ℕ) → BlockSheet → BlockSheet
 inSheet f a = record { block = a .block; sheet = f (a .sheet); entry = a .entry }
 
-abbrev pub inEntry : (List ℕ → List ℕ) → Amendment → Amendment
+abbrev pub inEntry : (List ℕ → List ℕ) → BlockSheet → BlockSheet
 inEntry f a = record { block = a .block; sheet = a .sheet; entry = f (a .entry) }
 
 -- 900 to 905 in word 18 of record 1. The sheet's zero byte is 1; 64 stand; there is no record 4; word 17 is a code; 901 is not what stands there

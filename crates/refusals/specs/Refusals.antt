@@ -150,10 +150,11 @@ sheetTrials =
     ∷ (openSheet (inPlace 8 1 noneStands), answer 40 0 0 0)
     ∷ (openSheet (inPlace 9 1 noneStands), answer 40 0 0 0)
     ∷ (openSheet (inPlace 520 1 noneStands), answer 40 0 0 0)
-    -- "all that starting tests"
+    -- "all that starting tests": any 520 bytes are started
     ∷ (startSheet [], answer 40 0 0 0)
     ∷ (startSheet (replicate 519 0), answer 40 0 0 0)
     ∷ (startSheet (replicate 521 0), answer 40 0 0 0)
+    ∷ (startSheet (replicate 520 255), answer 0 0 0 0)
     ∷ []
 
 -- "amend a value"
