@@ -206,7 +206,7 @@ textOrder lines bytes changes =
     everyTwo (λ c. linesToBlock (ended (c .input)) (c .room)) (record { input = lines; room = bytes })
     (inPart inInput changes ++ roomOrder bytes)
 
--- of a Data record; of a Catalogue, whose fields 13 to 20 must be zero; of a Header, whose fields 16 to 20 must; of a Data record behind a blank line
+-- of a Data record; of a Catalogue, whose fields 13 to 20 must be zero; of a Header, whose fields 16 to 20 must, and whose cards are read as a Catalogue's; of a Data record behind a blank line
 unfoldable pub textOrders : List Trial
 unfolding dataLinesOrder leftToRight firstLineOrder cardLinesOrder blankLinesOrder everyTwo
 textOrders =

@@ -1,4 +1,5 @@
--- Document 01, "Answer numbers": for each call and each refusal that it can give, a least input that is refused so.
+-- Document 01, "Answer numbers": for each call a least input for each refusal of its own, and one for those that it takes over from the block or the text.
+-- Where a row of the paper names several things there is an input for each. What is proved is the answer; that no shorter input has it was thought through, not proved.
 use Prim.Native.Nat.{ℕ}
 use mathlib.Core.List.{List, [], _∷_, _++_}
 use lib.ListN.{replicate, take}
@@ -171,7 +172,7 @@ amendTrials =
     ∷ (amendValue leastBlock noneStands (1 ∷ 0 ∷ 0 ∷ 0 ∷ []), answer 42 0 0 0)
     ∷ (amendValue leastBlock noneStands (1 ∷ 16 ∷ 0 ∷ 0 ∷ []), answer 42 0 0 0)
     ∷ (amendValue leastBlock noneStands (1 ∷ 17 ∷ 0 ∷ 0 ∷ []), answer 42 0 0 0)
-    -- a 2-D code, a 1-D code, a word of a Catalogue's card and of a Header
+    -- a 2-D code, a 1-D code, a word of a Catalogue, a free word of a Header
     ∷ (amendValue (blockFrom (dataOf (16 ∷ 0 ∷ 1 ∷ 0 ∷ 7 ∷ []))) noneStands (1 ∷ 17 ∷ 7 ∷ 0 ∷ []), answer 42 0 0 0)
     ∷ (amendValue (blockFrom valueRecord) noneStands (1 ∷ 17 ∷ 7 ∷ 0 ∷ []), answer 42 0 0 0)
     ∷ (amendValue (blockFrom (cardsOf 2001 [])) noneStands (1 ∷ 40 ∷ 0 ∷ 0 ∷ []), answer 42 0 0 0)
@@ -198,6 +199,6 @@ undoTrials =
     ∷ (undoLast (blockFrom valueRecord) (oneStands (1 ∷ 18 ∷ 900 ∷ 905 ∷ [])), answer 46 0 0 0)
     ∷ []
 
--- every refusal that a call can give is reached
+-- each of them is answered so
 abbrev pub EveryRefusal : Type 0
 EveryRefusal = Told blockTrials × Told linesTrials × Told textTrials × Told buildTrials × Told sheetTrials × Told amendTrials × Told undoTrials
