@@ -1,0 +1,61 @@
+-- The tables are computed.
+use mathlib.Core.Path.{_≡_, refl, ap}
+use mathlib.Core.List.{List}
+use Prim.Native.Nat.{ℕ, _<_}
+use lib.ListN.{length, replicate}
+use Rattle.units.specs.Answers.{answer, refused}
+use borrow.Author.Tests.{lt-ltb}
+use lib.Count.{ones, onesIn}
+use Rattle.units.specs.Decimal.{decimal}
+use Rattle.words.specs.Words.{wordsOf, bytesOf, xorAll, joined, framed}
+use Rattle.words.specs.Scans.{passing, wordWithin}
+use Rattle.words.specs.Outcomes.{Written, leaves, written}
+use Rattle.counts.specs.Counts.{underLeast, inRange}
+use Rattle.record.specs.Judging.{wrongTotal, judgeContent, judgeCards, judgeCounts, judgeData, judgeRecord}
+use Rattle.record.specs.Lines.{lineCount}
+use Rattle.record.specs.Values.{isValue}
+use Rattle.block.specs.Judging.{wrongSize, walk, judged}
+use Rattle.block.specs.Records.{cut, recordsOf}
+use Rattle.field.specs.Writing.{fieldOf}
+use Rattle.field.specs.Reading.{readField, columns}
+use Rattle.report.specs.Text.{bytesFrom}
+use Rattle.line_plan.specs.Plan.{part, times, plan}
+use Rattle.write_parts.specs.Laid.{fieldsOf, laid, cardLines, ended}
+use Rattle.write_lines.specs.Lines.{linesOf}
+use Rattle.write_lines.specs.Text.{textOf, toLines}
+use Rattle.read_cut.specs.Lines.{onto, endLength, linesIn}
+use Rattle.read_columns.specs.Columns.{rightTo, plainLine, blankAfter, number, fieldNumbers, zeroField, zeroFields}
+use Rattle.read_first_line.specs.FirstLine.{catalogueFields, headerFields, countsIn, countFields, prologueFields, dataFields, kindFields, firstFields, cardsRoom, dataRoom, firstLine}
+use Rattle.read_line.specs.Lines.{laterFields, inState, readLine, atEnd, readLines}
+use Rattle.read_text.specs.Block.{readText, wordsIn, toBlock}
+use Rattle.sheet.specs.Sheets.{sheetOf, sheetWith, entriesOf, entries, opened, started, broken, allZero}
+use Rattle.block_value.specs.Places.{noRecord, stands}
+use Rattle.amending.specs.Amending.{amendable, undoable, onBoth}
+use Rattle.refusals.specs.Given.{turned, wordPut, cutTo}
+use Rattle.refusals.specs.Refusals.{blockTrials, linesTrials, textTrials, buildTrials, sheetTrials, amendTrials, undoTrials, EveryRefusal}
+use Rattle.refusals.specs.Orders.{everyTwo, frameOrder, twoDataOrder, shortCatalogueOrder, cardsOrder, blockOrders, recordsOrder, linesOrders, onLine, dataLinesOrder, leftToRight, firstLineOrder, cardLinesOrder, blankLinesOrder, textOrders, amendOrders, undoOrders, EveryOrder, LongFirst}
+
+-- both tables: one equation for each call
+tables : EveryRefusal × EveryOrder
+unfolding blockTrials linesTrials textTrials buildTrials sheetTrials amendTrials undoTrials everyTwo frameOrder twoDataOrder shortCatalogueOrder cardsOrder blockOrders recordsOrder linesOrders onLine dataLinesOrder leftToRight firstLineOrder cardLinesOrder blankLinesOrder textOrders amendOrders undoOrders turned wordPut cutTo judged wrongSize walk judgeRecord judgeCards judgeContent judgeData judgeCounts inRange wrongTotal underLeast passing wordWithin wordsOf bytesOf xorAll ones onesIn recordsOf cut toLines written textOf ended linesOf laid cardLines plan part times fieldsOf fieldOf decimal lineCount framed joined bytesFrom wordsIn toBlock readText linesIn endLength onto readLines atEnd readLine inState laterFields firstLine firstFields kindFields catalogueFields headerFields dataFields countFields countsIn prologueFields dataRoom cardsRoom fieldNumbers zeroFields zeroField number readField columns blankAfter rightTo plainLine sheetOf sheetWith entriesOf entries opened started broken allZero isValue noRecord stands amendable undoable onBoth
+tables = ((refl, refl, refl, refl, refl, refl, refl), (refl, refl, refl, refl, refl))
+
+pub every-refusal : EveryRefusal
+every-refusal = tables .0
+
+pub every-order : EveryOrder
+every-order = tables .1
+
+-- the length is tested before any line
+long-read : (lines : List ℕ) → 65536 < length lines → readText lines ≡ refused (answer 30 0 0 0)
+unfolding readText
+long-read lines h = simp (lt-ltb _ _ h)
+
+-- and then nothing is built
+long-built : (lines out : List ℕ) → 65536 < length lines → toBlock lines out ≡ leaves (answer 30 0 0 0) out
+unfolding toBlock written
+long-built lines out h = simp (long-read lines h)
+
+pub long-first : LongFirst
+unfolding wordsIn
+long-first lines room h = (simp (long-read lines h), ap (λ (w : Written). w .answer) (long-built lines (replicate room 0) h))
