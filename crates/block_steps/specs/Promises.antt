@@ -7,9 +7,9 @@ use Rattle.block_steps.specs.declared.Place.{Place}
 use Rattle.block_steps.specs.Steps.{stepOf, findOf}
 
 -- `step`: what stands behind `at` words of a block
-abbrev pub Steps : List ℕ → ℕ → Place → Type 0
-Steps block at r = r ≡ stepOf (wordsOf block) at
+abbrev pub StepsTo : List ℕ → ℕ → Place → Type 0
+StepsTo block at r = r ≡ stepOf (wordsOf block) at
 
 -- `find`: record `number`; word 1 of the block stands before the first
-abbrev pub Finds : List ℕ → ℕ → Place → Type 0
-Finds block number r = r ≡ findOf (wordsOf block) 1 number
+abbrev pub FindsRecord : List ℕ → ℕ → Place → Type 0
+FindsRecord block number r = r ≡ findOf (wordsOf block) 1 number

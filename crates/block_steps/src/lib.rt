@@ -3,7 +3,7 @@ use units::Words;
 ghost use mathlib.Core.Path.{_≡_};
 ghost use Rattle.words.specs.Words.{wordsOf, bytesOf};
 ghost use Rattle.block_steps.specs.Steps.{recordAt};
-ghost use Rattle.block_steps.specs.Promises.{Steps, Finds};
+ghost use Rattle.block_steps.specs.Promises.{StepsTo, FindsRecord};
 
 // The next record, by the words of the block before it and its own; or no more.
 pub enum Place {
@@ -13,7 +13,7 @@ pub enum Place {
 
 // The record with `at` words of the block before it, or no more where none stands there.
 pub fn step(block: &[u8], at: Words) -> Place
-    ensures { λ r. ⌜ Steps (now (block .entry)) (at .0) r ⌝ }
+    ensures { λ r. ⌜ StepsTo (now (block .entry)) (at .0) r ⌝ }
 {
     let place = at.0;
     let m = words::count(block).0;
@@ -44,7 +44,7 @@ pub fn record_at(block: &[u8], at: Words) -> &[u8]
 
 // Record `number` of the block, or no more where the block has fewer.
 pub fn find(block: &[u8], number: u16) -> Place
-    ensures { λ r. ⌜ Finds (now (block .entry)) number r ⌝ }
+    ensures { λ r. ⌜ FindsRecord (now (block .entry)) number r ⌝ }
 {
     if number == 0 {
         return Place::NoMore;

@@ -26,8 +26,8 @@ abbrev pub CedarWritesBlock : List ℕ → List ℕ → ℕ → List ℕ → Typ
 CedarWritesBlock text block r after = returned r after ≡ converted (toBlock text block)
 
 -- `cedar_sheet_start`, and the sheet afterwards
-abbrev pub CedarStarts : List ℕ → ℕ → List ℕ → Type 0
-CedarStarts sheet r after = returned r after ≡ converted (started version1 sheet)
+abbrev pub CedarStartsSheet : List ℕ → ℕ → List ℕ → Type 0
+CedarStartsSheet sheet r after = returned r after ≡ converted (started version1 sheet)
 
 -- `cedar_amend`, and both buffers afterwards
 abbrev pub CedarAmends : Entry → List ℕ → List ℕ → ℕ → List ℕ → List ℕ → Type 0

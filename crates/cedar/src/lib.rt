@@ -1,7 +1,7 @@
 // The calls for C, and nothing else: each returns its answer's four numbers as one.
 use sheet::Amendment;
 ghost use mathlib.Core.List.{[], _∷_};
-ghost use Rattle.cedar.specs.Promises.{CedarJudges, CedarFindsPrefix, CedarWritesLines, CedarWritesBlock, CedarStarts, CedarAmends, CedarUndoes};
+ghost use Rattle.cedar.specs.Promises.{CedarJudges, CedarFindsPrefix, CedarWritesLines, CedarWritesBlock, CedarStartsSheet, CedarAmends, CedarUndoes};
 
 // uint64_t cedar_judge(const uint8_t *block, size_t length);
 #[no_mangle]
@@ -42,7 +42,7 @@ pub extern "C" fn cedar_to_block(text: &[u8], block: &mut [u8]) -> u64
 // uint64_t cedar_sheet_start(uint8_t *sheet, size_t length);
 #[no_mangle]
 pub extern "C" fn cedar_sheet_start(sheet: &mut [u8]) -> u64
-    ensures { λ r. ⌜ CedarStarts (now (sheet .entry)) r (now (sheet .exit)) ⌝ }
+    ensures { λ r. ⌜ CedarStartsSheet (now (sheet .entry)) r (now (sheet .exit)) ⌝ }
 {
     let opened = sheet::start(sheet);
     units::pack(sheet::numbers(opened))

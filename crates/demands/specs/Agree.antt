@@ -4,14 +4,14 @@ use mathlib.Core.List.{List}
 use Prim.Native.Nat.{ℕ}
 use Rattle.words.specs.Writing.{Put}
 use Rattle.block.specs.Promises.{Judges}
-use Rattle.block_steps.specs.Promises.{Steps, Finds}
+use Rattle.block_steps.specs.Promises.{StepsTo, FindsRecord}
 use Rattle.prefix.specs.Promises.{FindsPrefix}
 use Rattle.write_lines.specs.Promises.{WritesLines}
 use Rattle.read_text.specs.Promises.{JudgesLines, WritesBlock}
 use Rattle.sheet.specs.Sheets.{Entry}
-use Rattle.sheet.specs.Promises.{Opens, Starts}
+use Rattle.sheet.specs.Promises.{OpensSheet, StartsSheet}
 use Rattle.amending.specs.Promises.{Amends, Undoes}
-use Rattle.cedar.specs.Promises.{CedarJudges, CedarFindsPrefix, CedarWritesLines, CedarWritesBlock, CedarStarts, CedarAmends, CedarUndoes}
+use Rattle.cedar.specs.Promises.{CedarJudges, CedarFindsPrefix, CedarWritesLines, CedarWritesBlock, CedarStartsSheet, CedarAmends, CedarUndoes}
 use Rattle.printed.specs.Promises.{PrintsListing, PrintsLines, PrintsBlock}
 
 -- a promise on an answer fixes it
@@ -34,11 +34,11 @@ JudgeAgrees = (block : List ℕ) → Fixes (Judges block)
 
 -- `block_steps::step`
 abbrev pub StepAgrees : Type 0
-StepAgrees = (block : List ℕ) (at : ℕ) → Fixes (Steps block at)
+StepAgrees = (block : List ℕ) (at : ℕ) → Fixes (StepsTo block at)
 
 -- `block_steps::find`
 abbrev pub FindAgrees : Type 0
-FindAgrees = (block : List ℕ) (number : ℕ) → Fixes (Finds block number)
+FindAgrees = (block : List ℕ) (number : ℕ) → Fixes (FindsRecord block number)
 
 -- `prefix::prefix_of`
 abbrev pub PrefixAgrees : Type 0
@@ -58,11 +58,11 @@ BlockAgrees = (text block : List ℕ) → FixesOne (WritesBlock text block)
 
 -- `sheet::open`
 abbrev pub OpenAgrees : Type 0
-OpenAgrees = (sheet : List ℕ) → Fixes (Opens sheet)
+OpenAgrees = (sheet : List ℕ) → Fixes (OpensSheet sheet)
 
 -- `sheet::start`
 abbrev pub StartAgrees : Type 0
-StartAgrees = (sheet : List ℕ) → FixesOne (Starts sheet)
+StartAgrees = (sheet : List ℕ) → FixesOne (StartsSheet sheet)
 
 -- `amending::amend`
 abbrev pub AmendAgrees : Type 0
@@ -92,7 +92,7 @@ CedarBlockAgrees = (text block : List ℕ) → FixesOne (CedarWritesBlock text b
 
 -- `cedar_sheet_start`
 abbrev pub CedarStartAgrees : Type 0
-CedarStartAgrees = (sheet : List ℕ) → FixesOne (CedarStarts sheet)
+CedarStartAgrees = (sheet : List ℕ) → FixesOne (CedarStartsSheet sheet)
 
 -- `cedar_amend`
 abbrev pub CedarAmendAgrees : Type 0

@@ -9,9 +9,9 @@ use Rattle.sheet.specs.Cases.{openedOf}
 use Rattle.sheet.specs.Sheets.{version1, opened, started}
 
 -- `open`: how many amendments stand in these bytes
-abbrev pub Opens : List ℕ → Opened → Type 0
-Opens sheet r = openedOf r ≡ opened version1 sheet
+abbrev pub OpensSheet : List ℕ → Opened → Type 0
+OpensSheet sheet r = openedOf r ≡ opened version1 sheet
 
 -- `start`: "start an amendment sheet" in these bytes, and the bytes afterwards
-abbrev pub Starts : List ℕ → Opened → List ℕ → Type 0
-Starts sheet r after = leaves (answered (openedOf r)) after ≡ started version1 sheet
+abbrev pub StartsSheet : List ℕ → Opened → List ℕ → Type 0
+StartsSheet sheet r after = leaves (answered (openedOf r)) after ≡ started version1 sheet

@@ -14,7 +14,7 @@ ghost use Rattle.words.specs.Words.{bytesOf};
 ghost use Rattle.sheet.specs.Sheets.{version1, sheetBytes, sheetOf, numberAt, numbersIn, entriesOf, allZero, wrongMark, broken};
 ghost use Rattle.sheet.specs.Rules.{KeepsLayout, Holds};
 ghost use Rattle.sheet.specs.Cases.{entryOf, openedOf};
-ghost use Rattle.sheet.specs.Promises.{Opens, Starts};
+ghost use Rattle.sheet.specs.Promises.{OpensSheet, StartsSheet};
 
 const VERSION: u16 = 1;
 
@@ -98,7 +98,7 @@ fn is_broken(sheet: &[u8]) -> bool
 
 // How many amendments stand in a sheet, if it keeps its layout.
 pub fn open(sheet: &[u8]) -> Opened
-    ensures { λ r. ⌜ Opens (now (sheet .entry)) r ⌝ }
+    ensures { λ r. ⌜ OpensSheet (now (sheet .entry)) r ⌝ }
 {
     if is_broken(sheet) {
         return Opened::Broken;
@@ -129,7 +129,7 @@ fn clear(sheet: &mut [u8])
 
 // Starts a sheet: no amendment stands in it.
 pub fn start(sheet: &mut [u8]) -> Opened
-    ensures { λ r. ⌜ Starts (now (sheet .entry)) r (now (sheet .exit)) ⌝ }
+    ensures { λ r. ⌜ StartsSheet (now (sheet .entry)) r (now (sheet .exit)) ⌝ }
 {
     if sheet.len() != SIZE {
         return Opened::Broken;
