@@ -31,14 +31,14 @@ use Rattle.read_text.specs.Block.{readText, wordsIn, toBlock}
 use Rattle.sheet.specs.Sheets.{sheetOf, sheetWith, entriesOf, entries, opened, started, broken, allZero}
 use Rattle.block_value.specs.Places.{noRecord, stands}
 use Rattle.amending.specs.Amending.{amendable, undoable, onBoth}
-use Rattle.refusals.specs.Given.{turned, wordPut, cutTo}
-use Rattle.refusals.specs.Refusals.{blockTrials, linesTrials, textTrials, buildTrials, sheetTrials, amendTrials, undoTrials, EveryRefusal}
+use Rattle.refusals.specs.Questions.{turned, wordPut, cutTo}
+use Rattle.refusals.specs.Refusals.{badBlocks, blockTrials, badTexts, textTrials, roomTrials, sheetTrials, amendTrials, undoTrials, EveryRefusal}
 use Rattle.refusals.specs.Orders.{everyTwo, frameOrder, twoDataOrder, shortCatalogueOrder, cardsOrder, blockOrders, recordsOrder, linesOrders, onLine, dataLinesOrder, leftToRight, firstLineOrder, cardLinesOrder, blankLinesOrder, textOrders, amendOrders, undoOrders, EveryOrder, LongFirst}
 
 -- both tables: one equation for each call
 tables : EveryRefusal × EveryOrder
-unfolding blockTrials linesTrials textTrials buildTrials sheetTrials amendTrials undoTrials everyTwo frameOrder twoDataOrder shortCatalogueOrder cardsOrder blockOrders recordsOrder linesOrders onLine dataLinesOrder leftToRight firstLineOrder cardLinesOrder blankLinesOrder textOrders amendOrders undoOrders turned wordPut cutTo judged wrongSize walk judgeRecord judgeCards judgeContent judgeData judgeCounts inRange wrongTotal underLeast passing wordWithin wordsOf bytesOf xorAll ones onesIn recordsOf cut toLines written textOf ended linesOf laid cardLines plan part times fieldsOf fieldOf decimal lineCount framed joined bytesFrom wordsIn toBlock readText linesIn endLength onto readLines atEnd readLine inState laterFields firstLine firstFields kindFields catalogueFields headerFields dataFields countFields countsIn prologueFields dataRoom cardsRoom fieldNumbers zeroFields zeroField number readField columns blankAfter rightTo plainLine sheetOf sheetWith entriesOf entries opened started broken allZero isValue noRecord stands amendable undoable onBoth
-tables = ((refl, refl, refl, refl, refl, refl, refl), (refl, refl, refl, refl, refl))
+unfolding badBlocks blockTrials badTexts textTrials roomTrials sheetTrials amendTrials undoTrials everyTwo frameOrder twoDataOrder shortCatalogueOrder cardsOrder blockOrders recordsOrder linesOrders onLine dataLinesOrder leftToRight firstLineOrder cardLinesOrder blankLinesOrder textOrders amendOrders undoOrders turned wordPut cutTo judged wrongSize walk judgeRecord judgeCards judgeContent judgeData judgeCounts inRange wrongTotal underLeast passing wordWithin wordsOf bytesOf xorAll ones onesIn recordsOf cut toLines written textOf ended linesOf laid cardLines plan part times fieldsOf fieldOf decimal lineCount framed joined bytesFrom wordsIn toBlock readText linesIn endLength onto readLines atEnd readLine inState laterFields firstLine firstFields kindFields catalogueFields headerFields dataFields countFields countsIn prologueFields dataRoom cardsRoom fieldNumbers zeroFields zeroField number readField columns blankAfter rightTo plainLine sheetOf sheetWith entriesOf entries opened started broken allZero isValue noRecord stands amendable undoable onBoth
+tables = ((refl, refl, refl, refl, refl, refl), (refl, refl, refl, refl, refl))
 
 pub every-refusal : EveryRefusal
 every-refusal = tables .0

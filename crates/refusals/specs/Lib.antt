@@ -1,3 +1,3 @@
-pub mod Given
+pub mod Questions
 pub mod Refusals
 pub mod Orders

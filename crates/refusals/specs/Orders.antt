@@ -1,8 +1,9 @@
 -- Document 01, "Answer numbers": "A refusal is given exactly when its row holds and none before it in the order does; otherwise the call succeeds."
 -- For each order an input that passes, and changes of it in the paper's order, each of which makes a row hold. Of each two that are made the
--- first is told, and where it is mended the other. These never hold on one input, and there the later one shows only when the first is mended:
+-- first is told, and where it is mended the other. Where the first takes away what the later row is asked of, only the first holds of the two:
 -- 5 with 7 to 9, 23 with the rows behind it on the line (the kind says what is asked), 7 or 8 with 9 (other kinds);
 -- 4 with 8, with a Header's 7, with 9's words 16 and 1 (these words are lacking), 25 with a row of the line that is lacking;
+-- 6, and 9 at word 1, with the rows of the next record (where it begins is not known), 23, 27 and 28 with those of later lines (what they are is not known);
 -- 21 with 22 to 28 (a line that is not blank begins a record), 45 with 46 (no entry is the last), 29 with a row before it (what is needed is not known).
 use Prim.Native.Nat.{ℕ, _+_, _-_, _<_}
 use mathlib.Core.Path.{_≡_}
@@ -16,18 +17,18 @@ use Rattle.field.specs.Writing.{blanks}
 use Rattle.write_parts.specs.Laid.{fieldsOf, ended}
 use Rattle.report.specs.Text.{text}
 use Rattle.sheet.specs.Sheets.{Entry}
-use Rattle.refusals.specs.Given.{Given, judgeBlock, blockToLines, judgeText, linesToBlock, amendValue, undoLast, answerTo, Trial, Told, cardsOf, leastRecord, valueRecord, blankCard, inPlace, turned, wordPut, cutTo, dataLine, cardsLine, freeFields, noneStands, oneStands, allStand}
+use Rattle.refusals.specs.Questions.{Question, judgeBlock, blockToLines, judgeText, linesToBlock, amendValue, undoLast, answerTo, Trial, AnsweredSo, cardsOf, leastRecord, valueRecord, blankCard, inPlace, turned, wordPut, cutTo, dataLine, cardsLine, freeFields, noneStands, oneStands, allStand}
 
 -- a change of what is lent, and what is told when it alone is made
 abbrev pub Change : Type 0 → Type 0
 Change A = (A → A) × Answer
 
 -- a change with each of those behind it in the order: it is told
-abbrev pub withEach : {A : Type 0} → (A → Given) → A → Change A → List (Change A) → List Trial
+abbrev pub withEach : {A : Type 0} → (A → Question) → A → Change A → List (Change A) → List Trial
 withEach given good f gs = map (λ g. (given (f .0 (g .0 good)), f .1)) gs
 
 -- each change alone, and each two of them
-unfoldable pub everyTwo : {A : Type 0} → (A → Given) → A → List (Change A) → List Trial
+unfoldable pub everyTwo : {A : Type 0} → (A → Question) → A → List (Change A) → List Trial
 everyTwo given good [] = []
 everyTwo given good (f ∷ fs) = (given (f .0 good), f .1) ∷ (withEach given good f fs ++ everyTwo given good fs)
 
@@ -154,7 +155,7 @@ onLine n k bytes ls =
     let l = getD ls (n - 1) [] in
     set ls (n - 1) (take (k - 1) (l ++ blanks (k - 1)) ++ bytes ++ drop (k - 1 + length bytes) l)
 
--- a Data record of three lines: "20; fields 1 to 12; 23; the further fields its kind always has, ... (Data: 13 to 16); Data: 27, fields 17 on, then blank columns by 26. ... Data gives 28, then 24. Each later line: 25, 20, fields by 22, blank columns by 26"
+-- a Data record of three lines: "20; fields 1 to 12; 23; ... (Data: 13 to 16); Data: 27, fields 17 on, then blank columns by 26"; then 28, 24, and each later line
 unfoldable pub dataLinesOrder : List (Change (List Line))
 unfolding onLine
 dataLinesOrder =
@@ -206,13 +207,13 @@ textOrder lines bytes changes =
     everyTwo (λ c. linesToBlock (ended (c .input)) (c .room)) (record { input = lines; room = bytes })
     (inPart inInput changes ++ roomOrder bytes)
 
--- of a Data record; of a Catalogue, whose fields 13 to 20 must be zero; of a Header, whose fields 16 to 20 must, and whose cards are read as a Catalogue's; of a Data record behind a blank line
+-- of a Data record; of a Catalogue, whose fields 13 to 20 must be zero; of a Header, whose fields 16 to 20 must; of a Data record behind a blank line
 unfoldable pub textOrders : List Trial
 unfolding dataLinesOrder leftToRight firstLineOrder cardLinesOrder blankLinesOrder everyTwo
 textOrders =
     textOrder (dataLine 3 (17 ∷ 1 ∷ 0 ∷ 0 ∷ 0 ∷ []) ∷ fieldsOf (7 ∷ []) ∷ fieldsOf (900 ∷ []) ∷ []) 42 dataLinesOrder
     ++ textOrder (cardsLine 1 2101 ∷ cardsLine 3 2101 ∷ [] ∷ [] ∷ []) 324 (firstLineOrder (leftToRight 73 ++ leftToRight 85) ++ cardLinesOrder)
-    ++ textOrder (cardsLine 1 2101 ∷ (cardsLine 3 3101 ++ freeFields) ∷ [] ∷ [] ∷ []) 324 (firstLineOrder (leftToRight 85 ++ leftToRight 97))
+    ++ textOrder (cardsLine 1 2101 ∷ (cardsLine 3 3101 ++ freeFields) ∷ [] ∷ [] ∷ []) 324 (firstLineOrder (leftToRight 85 ++ leftToRight 97) ++ cardLinesOrder)
     ++ textOrder ([] ∷ dataLine 1 (16 ∷ 0 ∷ 0 ∷ 0 ∷ []) ∷ []) 36 blankLinesOrder
 
 -- "30, then line by line": whatever else is wrong in a text that is too long
@@ -267,4 +268,4 @@ undoOrders =
 
 -- each order is kept
 abbrev pub EveryOrder : Type 0
-EveryOrder = Told blockOrders × Told linesOrders × Told textOrders × Told amendOrders × Told undoOrders
+EveryOrder = AnsweredSo blockOrders × AnsweredSo linesOrders × AnsweredSo textOrders × AnsweredSo amendOrders × AnsweredSo undoOrders

@@ -1,14 +1,15 @@
--- Document 01, "Answer numbers": for each call a least input for each refusal of its own, and one for those that it takes over from the block or the text.
--- Where a row of the paper names several things there is an input for each. What is proved is the answer; that no shorter input has it was thought through, not proved.
+-- Document 01, "Answer numbers": for each call a least input for each of its refusals. Where a row of the paper names several things there is an input for
+-- each. What is proved is the answer; that no shorter input has it was thought through, not proved.
 use Prim.Native.Nat.{ℕ}
 use mathlib.Core.List.{List, [], _∷_, _++_}
 use lib.ListN.{replicate, take}
+use Rattle.units.specs.declared.Answer.{Answer}
 use Rattle.units.specs.Answers.{answer}
 use Rattle.words.specs.Words.{blockFrom}
 use Rattle.write_parts.specs.Laid.{fieldsOf}
 use Rattle.field.specs.Writing.{blanks}
 use Rattle.report.specs.Text.{text}
-use Rattle.refusals.specs.Given.{Trial, Told, judgeBlock, blockToLines, judgeText, linesToBlock, openSheet, startSheet, amendValue, undoLast, dataOf, cardsOf, leastRecord, valueRecord, blankCard, inPlace, turned, wordPut, dataLine, cardsLine, freeFields, noneStands, oneStands, allStand}
+use Rattle.refusals.specs.Questions.{Trial, AnsweredSo, lentTo, judgeBlock, blockToLines, judgeText, linesToBlock, openSheet, startSheet, amendValue, undoLast, dataOf, cardsOf, leastRecord, valueRecord, blankCard, inPlace, turned, wordPut, dataLine, cardsLine, freeFields, noneStands, oneStands, allStand}
 
 -- the block of the least record, 18 words
 abbrev pub leastBlock : List ℕ
@@ -26,110 +27,123 @@ headWith kind k w = wordPut 1 k w (blockFrom (cardsOf kind []))
 abbrev pub cardWith : ℕ → ℕ → ℕ → List ℕ
 cardWith kind k w = wordPut 1 k w (blockFrom (cardsOf kind blankCard))
 
--- "Judge a binary block"
-unfoldable pub blockTrials : List Trial
+-- blocks that are refused, "Order for a block: 1, 2, 3, then each record: 4, 5, 6, 7, 8, 9"
+unfoldable pub badBlocks : List (List ℕ × Answer)
 unfolding wordPut turned
-blockTrials =
+badBlocks =
     -- "byte count odd, under 36 or over 16,000"
-    (judgeBlock (replicate 37 0), answer 1 0 0 0)
-    ∷ (judgeBlock [], answer 1 0 0 0)
-    ∷ (judgeBlock (replicate 34 0), answer 1 0 0 0)
-    ∷ (judgeBlock (replicate 16002 0), answer 1 0 0 0)
-    ∷ (judgeBlock (wordPut 0 1 17 leastBlock), answer 2 0 0 0)
-    ∷ (judgeBlock (turned 1 leastBlock), answer 3 0 0 1)
-    ∷ (judgeBlock (turned 0xFFFF leastBlock), answer 3 0 0 16)
-    -- of 18 words the first record has 16
-    ∷ (judgeBlock (blockFrom (leastRecord ++ (0 ∷ []))), answer 4 2 1 0)
-    ∷ (judgeBlock (leastWith 2 0), answer 5 1 2 0)
+    (replicate 37 0, answer 1 0 0 0)
+    ∷ ([], answer 1 0 0 0)
+    ∷ (replicate 34 0, answer 1 0 0 0)
+    ∷ (replicate 16002 0, answer 1 0 0 0)
+    ∷ (wordPut 0 1 17 leastBlock, answer 2 0 0 0)
+    ∷ (turned 1 leastBlock, answer 3 0 0 1)
+    ∷ (turned 0xFFFF leastBlock, answer 3 0 0 16)
+    -- of 17 record words the first record has 16
+    ∷ (blockFrom (leastRecord ++ (0 ∷ [])), answer 4 2 1 0)
+    ∷ (leastWith 2 0, answer 5 1 2 0)
     -- "Data: under 16", "past the last record word"
-    ∷ (judgeBlock (leastWith 1 15), answer 6 1 1 0)
-    ∷ (judgeBlock (leastWith 1 17), answer 6 1 1 0)
+    ∷ (leastWith 1 15, answer 6 1 1 0)
+    ∷ (leastWith 1 17, answer 6 1 1 0)
     -- "under 40", past the last record word, "no multiple of 40"
-    ∷ (judgeBlock (leastWith 2 2001), answer 6 1 1 0)
-    ∷ (judgeBlock (leastWith 2 3002), answer 6 1 1 0)
-    ∷ (judgeBlock (wordPut 1 1 40 (leastWith 2 2001)), answer 6 1 1 0)
-    ∷ (judgeBlock (blockFrom (cardsOf 2001 (0 ∷ []))), answer 6 1 1 0)
+    ∷ (leastWith 2 2001, answer 6 1 1 0)
+    ∷ (wordPut 1 1 40 (leastWith 2 2001), answer 6 1 1 0)
+    ∷ (blockFrom (cardsOf 2001 (0 ∷ [])), answer 6 1 1 0)
+    ∷ (leastWith 2 3002, answer 6 1 1 0)
+    ∷ (wordPut 1 1 40 (leastWith 2 3002), answer 6 1 1 0)
+    ∷ (blockFrom (cardsOf 3002 (0 ∷ [])), answer 6 1 1 0)
     -- the first and the last that must be zero
-    ∷ (judgeBlock (headWith 2001 13 1), answer 7 1 13 0)
-    ∷ (judgeBlock (headWith 2001 40 1), answer 7 1 40 0)
-    ∷ (judgeBlock (headWith 3002 16 1), answer 7 1 16 0)
-    ∷ (judgeBlock (headWith 3002 40 1), answer 7 1 40 0)
+    ∷ (headWith 2001 13 1, answer 7 1 13 0)
+    ∷ (headWith 2001 40 1, answer 7 1 40 0)
+    ∷ (headWith 3002 16 1, answer 7 1 16 0)
+    ∷ (headWith 3002 40 1, answer 7 1 40 0)
     -- the second byte of the card is 31; the last but one is 127
-    ∷ (judgeBlock (cardWith 2001 41 0x201F), answer 8 1 41 0)
-    ∷ (judgeBlock (cardWith 2001 80 0x7F20), answer 8 1 80 0)
-    ∷ (judgeBlock (cardWith 3002 41 0x201F), answer 8 1 41 0)
+    ∷ (cardWith 2001 41 0x201F, answer 8 1 41 0)
+    ∷ (cardWith 2001 80 0x7F20, answer 8 1 80 0)
+    ∷ (cardWith 3002 41 0x201F, answer 8 1 41 0)
     -- LPROL 15; -1 for each count; JPAR 1 in 16 words
-    ∷ (judgeBlock (leastWith 13 15), answer 9 1 13 0)
-    ∷ (judgeBlock (leastWith 13 0xFFFF), answer 9 1 13 0)
-    ∷ (judgeBlock (leastWith 14 0xFFFF), answer 9 1 14 0)
-    ∷ (judgeBlock (leastWith 15 0xFFFF), answer 9 1 15 0)
-    ∷ (judgeBlock (leastWith 16 0xFFFF), answer 9 1 16 0)
-    ∷ (judgeBlock (leastWith 14 1), answer 9 1 1 0)
+    ∷ (leastWith 13 15, answer 9 1 13 0)
+    ∷ (leastWith 13 0xFFFF, answer 9 1 13 0)
+    ∷ (leastWith 14 0xFFFF, answer 9 1 14 0)
+    ∷ (leastWith 15 0xFFFF, answer 9 1 15 0)
+    ∷ (leastWith 16 0xFFFF, answer 9 1 16 0)
+    ∷ (leastWith 14 1, answer 9 1 1 0)
     ∷ []
 
--- "block to character lines"
-unfoldable pub linesTrials : List Trial
-unfolding wordPut turned
-linesTrials =
-    (blockToLines (leastWith 2 0) 97, answer 5 1 2 0)
-    -- one byte short of its 16 fields and LF
-    ∷ (blockToLines leastBlock 96, answer 29 97 0 0)
-    ∷ []
+-- "Judge a binary block"; "To lines: the block, then 29"; "Amend: block, 40"; "Undo: block, 40": the others with no room and no sheet
+unfoldable pub blockTrials : List Trial
+unfolding badBlocks
+blockTrials =
+    lentTo judgeBlock badBlocks
+    ++ lentTo (λ b. blockToLines b 0) badBlocks
+    ++ lentTo (λ b. amendValue b [] []) badBlocks
+    ++ lentTo (λ b. undoLast b []) badBlocks
 
--- a text judged before it becomes a block; a line may end with the text
-unfoldable pub textTrials : List Trial
+-- texts that are refused; a line may end with the text
+unfoldable pub badTexts : List (List ℕ × Answer)
 unfolding fieldsOf
-textTrials =
+badTexts =
     -- "line over 120"; bad bytes, the last of them a CR with no LF behind it
-    (judgeText (blanks 121), answer 20 1 121 0)
-    ∷ (judgeText (31 ∷ []), answer 20 1 1 0)
-    ∷ (judgeText (127 ∷ []), answer 20 1 1 0)
-    ∷ (judgeText (13 ∷ []), answer 20 1 1 0)
-    -- no line at all, and blank lines only
-    ∷ (judgeText [], answer 21 0 0 0)
-    ∷ (judgeText (32 ∷ 10 ∷ 10 ∷ []), answer 21 0 0 0)
+    (blanks 121, answer 20 1 121 0)
+    ∷ (31 ∷ [], answer 20 1 1 0)
+    ∷ (127 ∷ [], answer 20 1 1 0)
+    ∷ (13 ∷ [], answer 20 1 1 0)
+    -- "first such column"
+    ∷ (blanks 4 ++ (127 ∷ 127 ∷ []), answer 20 1 5 0)
+    ∷ (blanks 4 ++ (127 ∷ blanks 116), answer 20 1 5 0)
+    -- no line at all, and blank lines only; CR LF ends one
+    ∷ ([], answer 21 0 0 0)
+    ∷ (32 ∷ 10 ∷ 10 ∷ [], answer 21 0 0 0)
+    ∷ (13 ∷ 10 ∷ [], answer 21 0 0 0)
     -- no digit in the last column of field 1; field 2 is blank
-    ∷ (judgeText (text "0"), answer 22 1 1 0)
-    ∷ (judgeText (text "     0"), answer 22 1 7 0)
-    ∷ (judgeText (cardsLine 0 0), answer 23 1 7 0)
+    ∷ (text "0", answer 22 1 1 0)
+    ∷ (text "     0", answer 22 1 7 0)
+    ∷ (cardsLine 0 0, answer 23 1 7 0)
     -- "Catalogue and Header have 1 to 199 lines"
-    ∷ (judgeText (cardsLine 0 2101), answer 24 1 1 0)
-    ∷ (judgeText (cardsLine 200 2101), answer 24 1 1 0)
-    ∷ (judgeText (cardsLine 0 3101 ++ freeFields), answer 24 1 1 0)
-    ∷ (judgeText (cardsLine 200 3101 ++ freeFields), answer 24 1 1 0)
-    ∷ (judgeText (dataLine 2 (16 ∷ 0 ∷ 0 ∷ 0 ∷ [])), answer 24 1 1 0)
-    -- a card is lacking; the codes are
-    ∷ (judgeText (cardsLine 2 2101), answer 25 2 1 0)
-    ∷ (judgeText (dataLine 3 (16 ∷ 1 ∷ 0 ∷ 0 ∷ [])), answer 25 2 1 0)
+    ∷ (cardsLine 0 2101, answer 24 1 1 0)
+    ∷ (cardsLine 200 2101, answer 24 1 1 0)
+    ∷ (cardsLine 0 3101 ++ freeFields, answer 24 1 1 0)
+    ∷ (cardsLine 200 3101 ++ freeFields, answer 24 1 1 0)
+    -- "not the lines its four counts need", "20 fields a line"
+    ∷ (dataLine 2 (16 ∷ 0 ∷ 0 ∷ 0 ∷ []), answer 24 1 1 0)
+    ∷ (dataLine 2 (16 ∷ 0 ∷ 21 ∷ 0 ∷ []), answer 24 1 1 0)
+    -- a card is lacking; the codes are, on one line or two
+    ∷ (cardsLine 2 2101, answer 25 2 1 0)
+    ∷ (dataLine 3 (16 ∷ 1 ∷ 0 ∷ 0 ∷ []), answer 25 2 1 0)
+    ∷ (dataLine 2 (16 ∷ 0 ∷ 20 ∷ 0 ∷ []), answer 25 2 1 0)
+    ∷ (dataLine 3 (16 ∷ 0 ∷ 21 ∷ 0 ∷ []), answer 25 2 1 0)
     -- blank columns: behind the fields of a first line, of a later one, and behind a card
-    ∷ (judgeText (dataLine 1 (16 ∷ 0 ∷ 0 ∷ 0 ∷ []) ++ text "0"), answer 26 1 97 0)
-    ∷ (judgeText (dataLine 3 (16 ∷ 1 ∷ 0 ∷ 0 ∷ []) ++ (10 ∷ text "     70")), answer 26 2 7 0)
-    ∷ (judgeText (cardsLine 2 2101 ++ (10 ∷ blanks 80 ++ text "0")), answer 26 2 81 0)
+    ∷ (dataLine 1 (16 ∷ 0 ∷ 0 ∷ 0 ∷ []) ++ text "0", answer 26 1 97 0)
+    ∷ (dataLine 1 (16 ∷ 0 ∷ 0 ∷ 0 ∷ []) ++ text " 0 0", answer 26 1 98 0)
+    ∷ (dataLine 3 (16 ∷ 1 ∷ 0 ∷ 0 ∷ []) ++ (10 ∷ text "     70"), answer 26 2 7 0)
+    ∷ (cardsLine 2 2101 ++ (10 ∷ blanks 80 ++ text "0"), answer 26 2 81 0)
     -- the fields that must be zero, the first and the last
-    ∷ (judgeText (cardsLine 1 2101 ++ text "     1"), answer 26 1 73 0)
-    ∷ (judgeText (cardsLine 1 2101 ++ blanks 42 ++ text "     1"), answer 26 1 115 0)
-    ∷ (judgeText (cardsLine 1 3101 ++ freeFields ++ text "     1"), answer 26 1 91 0)
-    -- LPROL 15, and -1 for each of the others
-    ∷ (judgeText (dataLine 1 (15 ∷ 0 ∷ 0 ∷ 0 ∷ [])), answer 27 1 73 0)
-    ∷ (judgeText (dataLine 1 (16 ∷ 0xFFFF ∷ 0 ∷ 0 ∷ [])), answer 27 1 79 0)
-    ∷ (judgeText (dataLine 1 (16 ∷ 0 ∷ 0xFFFF ∷ 0 ∷ [])), answer 27 1 85 0)
-    ∷ (judgeText (dataLine 1 (16 ∷ 0 ∷ 0 ∷ 0xFFFF ∷ [])), answer 27 1 91 0)
+    ∷ (cardsLine 1 2101 ++ text "     1", answer 26 1 73 0)
+    ∷ (cardsLine 1 2101 ++ blanks 42 ++ text "     1", answer 26 1 115 0)
+    ∷ (cardsLine 1 3101 ++ freeFields ++ text "     1", answer 26 1 91 0)
+    ∷ (cardsLine 1 3101 ++ freeFields ++ blanks 24 ++ text "     1", answer 26 1 115 0)
+    -- LPROL 15, -1 for each of the others, and for two of them
+    ∷ (dataLine 1 (15 ∷ 0 ∷ 0 ∷ 0 ∷ []), answer 27 1 73 0)
+    ∷ (dataLine 1 (16 ∷ 0xFFFF ∷ 0 ∷ 0 ∷ []), answer 27 1 79 0)
+    ∷ (dataLine 1 (16 ∷ 0 ∷ 0xFFFF ∷ 0 ∷ []), answer 27 1 85 0)
+    ∷ (dataLine 1 (16 ∷ 0 ∷ 0 ∷ 0xFFFF ∷ []), answer 27 1 91 0)
+    ∷ (dataLine 1 (16 ∷ 0xFFFF ∷ 0 ∷ 0xFFFF ∷ []), answer 27 1 79 0)
     -- 16 and 7,983 words; a Catalogue's 40, then one of 199 lines, 7,960
-    ∷ (judgeText (dataLine 7984 (16 ∷ 0 ∷ 1 ∷ 7982 ∷ [])), answer 28 1 1 0)
-    ∷ (judgeText (cardsLine 1 2101 ++ (10 ∷ cardsLine 199 2101)), answer 28 2 1 0)
-    ∷ (judgeText (cardsLine 1 2101 ++ (10 ∷ cardsLine 199 3101 ++ freeFields)), answer 28 2 1 0)
-    ∷ (judgeText (replicate 65537 10), answer 30 0 0 0)
+    ∷ (dataLine 7984 (16 ∷ 0 ∷ 1 ∷ 7982 ∷ []), answer 28 1 1 0)
+    ∷ (cardsLine 1 2101 ++ (10 ∷ cardsLine 199 2101), answer 28 2 1 0)
+    ∷ (cardsLine 1 2101 ++ (10 ∷ cardsLine 199 3101 ++ freeFields), answer 28 2 1 0)
+    ∷ (replicate 65537 10, answer 30 0 0 0)
     ∷ []
 
--- "lines to block"
-unfoldable pub buildTrials : List Trial
+-- a text judged before it becomes a block, and "lines to block" with no room
+unfoldable pub textTrials : List Trial
+unfolding badTexts
+textTrials = lentTo judgeText badTexts ++ lentTo (λ t. linesToBlock t 0) badTexts
+
+-- "output shorter than needed": a byte short of 16 fields and LF, and of 18 words
+unfoldable pub roomTrials : List Trial
 unfolding fieldsOf
-buildTrials =
-    (linesToBlock (text "0") 36, answer 22 1 1 0)
-    ∷ (linesToBlock [] 0, answer 21 0 0 0)
-    -- one byte short of 18 words
-    ∷ (linesToBlock (dataLine 1 (16 ∷ 0 ∷ 0 ∷ 0 ∷ [])) 35, answer 29 36 0 0)
-    ∷ []
+roomTrials = (blockToLines leastBlock 96, answer 29 97 0 0) ∷ (linesToBlock (dataLine 1 (16 ∷ 0 ∷ 0 ∷ 0 ∷ [])) 35, answer 29 36 0 0) ∷ []
 
 -- a sheet opened, and "start an amendment sheet"
 unfoldable pub sheetTrials : List Trial
@@ -162,8 +176,7 @@ sheetTrials =
 unfoldable pub amendTrials : List Trial
 unfolding wordPut turned
 amendTrials =
-    (amendValue (leastWith 2 0) noneStands (1 ∷ 16 ∷ 0 ∷ 0 ∷ []), answer 5 1 2 0)
-    ∷ (amendValue leastBlock [] (1 ∷ 16 ∷ 0 ∷ 0 ∷ []), answer 40 0 0 0)
+    (amendValue leastBlock [] (1 ∷ 16 ∷ 0 ∷ 0 ∷ []), answer 40 0 0 0)
     ∷ (amendValue leastBlock allStand (1 ∷ 16 ∷ 0 ∷ 0 ∷ []), answer 44 0 0 0)
     -- record 0, and one past the last
     ∷ (amendValue leastBlock noneStands (0 ∷ 16 ∷ 0 ∷ 0 ∷ []), answer 41 0 0 0)
@@ -187,8 +200,7 @@ amendTrials =
 unfoldable pub undoTrials : List Trial
 unfolding wordPut turned
 undoTrials =
-    (undoLast (leastWith 2 0) noneStands, answer 5 1 2 0)
-    ∷ (undoLast leastBlock [], answer 40 0 0 0)
+    (undoLast leastBlock [], answer 40 0 0 0)
     ∷ (undoLast leastBlock noneStands, answer 45 0 0 0)
     -- no value place: a word of the prologue, a code; no record
     ∷ (undoLast leastBlock (oneStands (1 ∷ 16 ∷ 0 ∷ 0 ∷ [])), answer 46 0 0 0)
@@ -201,4 +213,4 @@ undoTrials =
 
 -- each of them is answered so
 abbrev pub EveryRefusal : Type 0
-EveryRefusal = Told blockTrials × Told linesTrials × Told textTrials × Told buildTrials × Told sheetTrials × Told amendTrials × Told undoTrials
+EveryRefusal = AnsweredSo blockTrials × AnsweredSo textTrials × AnsweredSo roomTrials × AnsweredSo sheetTrials × AnsweredSo amendTrials × AnsweredSo undoTrials

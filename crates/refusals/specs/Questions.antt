@@ -1,4 +1,4 @@
--- Document 01, "Answer numbers": what is given to a call, and what its definition answers. Behind it the inputs that the tables are made of.
+-- Document 01, "Answer numbers": a call with what is lent to it, and what its definition answers. Then the inputs of the tables.
 use Prim.Native.Nat.{ℕ, _+_, _-_}
 use mathlib.Core.Path.{_≡_}
 use mathlib.Core.List.{List, [], _∷_, _++_, map}
@@ -16,18 +16,18 @@ use Rattle.sheet.specs.Sheets.{Entry, version1, sheetOf, opened, started}
 use Rattle.amending.specs.Amending.{amend, undo}
 
 -- a call and what is lent to it: the bytes of each buffer, and of an output how many there are
-pub data Given : Type 0 where
-  judgeBlock : List ℕ → Given
-  blockToLines : List ℕ → ℕ → Given
-  judgeText : List ℕ → Given
-  linesToBlock : List ℕ → ℕ → Given
-  openSheet : List ℕ → Given
-  startSheet : List ℕ → Given
-  amendValue : List ℕ → List ℕ → Entry → Given
-  undoLast : List ℕ → List ℕ → Given
+pub data Question : Type 0 where
+  judgeBlock : List ℕ → Question
+  blockToLines : List ℕ → ℕ → Question
+  judgeText : List ℕ → Question
+  linesToBlock : List ℕ → ℕ → Question
+  openSheet : List ℕ → Question
+  startSheet : List ℕ → Question
+  amendValue : List ℕ → List ℕ → Entry → Question
+  undoLast : List ℕ → List ℕ → Question
 
 -- the four numbers that the call's definition answers
-abbrev pub answerTo : Given → Answer
+abbrev pub answerTo : Question → Answer
 answerTo (judgeBlock block) = answered (judged block)
 answerTo (blockToLines block room) = toLines block (replicate room 0) .answer
 answerTo (judgeText lines) = answered (wordsIn lines)
@@ -37,13 +37,17 @@ answerTo (startSheet sheet) = started version1 sheet .answer
 answerTo (amendValue block sheet entry) = amend version1 entry block sheet .answer
 answerTo (undoLast block sheet) = undo version1 block sheet .answer
 
--- what is given, and the answer that the paper gives to it
+-- a call with what is lent to it, and the answer that the paper gives
 abbrev pub Trial : Type 0
-Trial = Given × Answer
+Trial = Question × Answer
+
+-- these inputs lent to a call, each with its answer
+abbrev pub lentTo : (List ℕ → Question) → List (List ℕ × Answer) → List Trial
+lentTo call inputs = map (λ i. (call (i .0), i .1)) inputs
 
 -- the definitions answer the same
-abbrev pub Told : List Trial → Type 0
-Told trials = map (λ t. answerTo (t .0)) trials ≡ map (λ t. t .1) trials
+abbrev pub AnsweredSo : List Trial → Type 0
+AnsweredSo trials = map (λ t. answerTo (t .0)) trials ≡ map (λ t. t .1) trials
 
 -- ---- blocks
 
