@@ -12,10 +12,10 @@ use Rattle.units.specs.declared.Answer.{Answer}
 use Rattle.units.specs.Answers.{answer, Verdict, passed, refused, onward}
 use Rattle.units.proofs.Verdicts.{never-passed}
 use Rattle.sheet.specs.Sheets.{Layout, Entry}
-use Rattle.block_value.specs.Places.{recordNumber, oldValue, newValue, noRecord, noValue, found, withValue, stands}
+use Rattle.block_value.specs.Places.{recordNumber, oldValue, newValue, noRecord, noValue, found, withValue, stands, NamesValuePlace}
 use Rattle.block_value.specs.Exchange.{valuePlace}
 use Rattle.amending.specs.Amending.{Both, both, amendable, undoable, lastOf, othersOf}
-use Rattle.block_value.proofs.Named.{Named, named-there}
+use Rattle.block_value.proofs.Named.{named-there}
 
 -- a refusal that a test gives goes through
 onward-else : {A B : Type 0} (t : Bool) (r : Answer) (v : Verdict A) (f : A → Verdict B) → onward (if t then refused r else v) f ≡ (if t then refused r else onward v f)
@@ -30,14 +30,14 @@ module _ (y : Layout) (e : Entry) (rs : List (List ℕ)) (es : List Entry) (room
   unfolding amendable valuePlace
   amend-places = simp (lt-leb (y .limit) (length es) room, onward-else)
 
-  pub amend-passes : Named rs e → oldValue e ≡ found rs e → amendable y e (both rs es) ≡ passed (both (withValue rs e (newValue e)) (es ++ e ∷ []))
+  pub amend-passes : NamesValuePlace rs e → oldValue e ≡ found rs e → amendable y e (both rs es) ≡ passed (both (withValue rs e (newValue e)) (es ++ e ∷ []))
   unfolding amendable
   amend-passes p q = simp (lt-leb (y .limit) (length es) room, named-there rs e p, p .value, eq-eqb (oldValue e) (found rs e) q)
 
 -- ---- undo
 
 -- an entry stands where it names a value and its new value is found there
-pub it-stands : (rs : List (List ℕ)) (e : Entry) → Named rs e → newValue e ≡ found rs e → stands rs e ≡ true
+pub it-stands : (rs : List (List ℕ)) (e : Entry) → NamesValuePlace rs e → newValue e ≡ found rs e → stands rs e ≡ true
 unfolding stands
 it-stands rs e p q = simp (named-there rs e p, p .value, eq-eqb (newValue e) (found rs e) q)
 

@@ -14,19 +14,14 @@ use Rattle.record.specs.Rules.{RecordOk}
 use Rattle.record.specs.Values.{isValue}
 use Rattle.record.proofs.Values.{ValueAt, value-at}
 use Rattle.sheet.specs.Sheets.{Entry}
-use Rattle.block_value.specs.Places.{recordNumber, wordNumber, recordIn, noRecord}
+use Rattle.block_value.specs.Places.{recordNumber, wordNumber, recordIn, noRecord, NamesValuePlace}
 
 -- where row 41 is not given
 pub is-record : (rs : List (List ℕ)) (n : ℕ) → noRecord rs n ≡ false → (1 ≤ n) × (n ≤ length rs)
 unfolding noRecord
 is-record rs n e = let o = or-off (eqb n 0) (ltb (length rs) n) e in let z = eqb-false n 0 (o .0) in (omega (arith, z), ltb-false (length rs) n (o .1))
 
-pub record Named (rs : List (List ℕ)) (e : Entry) : Type 0 where
-  pub least : 1 ≤ recordNumber e
-  pub most : recordNumber e ≤ length rs
-  pub value : isValue (recordIn rs (recordNumber e)) (wordNumber e) ≡ true
-
-module _ (rs : List (List ℕ)) (e : Entry) (p : Named rs e) where
+module _ (rs : List (List ℕ)) (e : Entry) (p : NamesValuePlace rs e) where
   -- its record is there
   pub named-there : noRecord rs (recordNumber e) ≡ false
   unfolding noRecord

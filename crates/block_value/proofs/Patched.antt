@@ -22,13 +22,13 @@ use Rattle.block.specs.Judging.{Accepted}
 use Rattle.block.specs.Records.{recordsOf}
 use Rattle.block.proofs.Exact.{frame-of, only-good, words-are}
 use Rattle.sheet.specs.Sheets.{Entry}
-use Rattle.block_value.specs.Places.{recordNumber, wordNumber, recordIn, noRecord, noValue, found, withValue}
+use Rattle.block_value.specs.Places.{recordNumber, wordNumber, recordIn, noRecord, noValue, found, withValue, NamesValuePlace}
 use Rattle.block_value.specs.Exchange.{Exchanged, valuePlace, patched}
 use Rattle.block_value.specs.declared.Obstacle.{Obstacle}
 use Rattle.block_value.specs.declared.Spot.{Spot}
 use Rattle.block_value.specs.declared.Spot.the-variants.{Value, Refused}
 use Rattle.block_value.specs.Cases.{obstacleOf, spotOf}
-use Rattle.block_value.proofs.Named.{is-record, Named, named-inside, named-value}
+use Rattle.block_value.proofs.Named.{is-record, named-inside, named-value}
 
 -- a word of a frame changed in its place, and the last word with it
 frame-patched : (ws : List ℕ) (k : ℕ) → k < length ws → (v : ℕ)
@@ -49,7 +49,7 @@ last-kept b b′ at m h e k = omega (arith, length-wordsOf b, length-wordsOf b�
 
 -- an entry names a value, and v stands there, with `at` words of the block before it
 pub record NamesValue (rs : List (List ℕ)) (e : Entry) (v at : ℕ) : Type 0 where
-  pub named : Named rs e
+  pub named : NamesValuePlace rs e
   pub stands : v ≡ found rs e
   pub place : at ≡ suc (length (joined (take (recordNumber e - 1) rs)) + (wordNumber e - 1))
 

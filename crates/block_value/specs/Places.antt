@@ -1,7 +1,8 @@
 -- Document 01, "The amendment sheet": the place that an entry names, in the records of a block.
-use Prim.Native.Nat.{ℕ, _-_}
+use Prim.Native.Nat.{ℕ, _-_, _≤_}
+use mathlib.Core.Path.{_≡_}
 use mathlib.Core.List.{List, []}
-use mathlib.Core.Bool.{Bool, not, _&&_, _||_}
+use mathlib.Core.Bool.{Bool, true, not, _&&_, _||_}
 use lib.Dec.{eqb, ltb}
 use lib.ListN.{length, getD, set}
 use Rattle.words.specs.Words.{word}
@@ -32,6 +33,12 @@ noRecord rs n = eqb n 0 || ltb (length rs) n
 -- row 42: "that word is no value of a Data record"
 abbrev pub noValue : List (List ℕ) → Entry → Bool
 noValue rs e = not (isValue (recordIn rs (recordNumber e)) (wordNumber e))
+
+-- neither of these rows holds: the entry names a "value place"
+pub record NamesValuePlace (rs : List (List ℕ)) (e : Entry) : Type 0 where
+  pub least : 1 ≤ recordNumber e
+  pub most : recordNumber e ≤ length rs
+  pub value : isValue (recordIn rs (recordNumber e)) (wordNumber e) ≡ true
 
 -- row 43: "what stands there"
 abbrev pub found : List (List ℕ) → Entry → ℕ

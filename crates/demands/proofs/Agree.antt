@@ -2,10 +2,12 @@
 use mathlib.Core.Path.{_≡_, refl, sym, ap, _∙_}
 use mathlib.Core.Bool.{false}
 use mathlib.Core.Logic.{_⊎_, inl, inr}
+use mathlib.Core.List.{List, [], _∷_}
 use native.Mathlib.Omega.{arith}
 use borrow.Author.Tests.{ne-eqb}
 use Prim.Native.Nat.{ℕ, _≤_}
 use lib.Dec.{eqb}
+use lib.ListN.{length}
 use Rattle.units.specs.Choice.{if_then_else_}
 use Rattle.units.specs.declared.Answer.{Answer}
 use Rattle.units.specs.declared.Lines.{Lines}
@@ -47,7 +49,7 @@ use Rattle.amending.specs.Amending.{Outcome, buffers, amend, undo}
 use Rattle.cedar.specs.Calls.{Returned, returned, converted, ReturnedBoth, returnedBoth, amendedBoth}
 use Rattle.printed.specs.Listing.{listingOf}
 use Rattle.printed.specs.Printed.{linesPrinted, blockPrinted}
-use Rattle.demands.specs.Agree.{FixesOne, FixesTwo, JudgeAgrees, StepAgrees, FindAgrees, PrefixAgrees, LinesAgree, ContentAgrees, BlockAgrees, OpenAgrees, StartAgrees, AmendAgrees, UndoAgrees, CedarJudgeAgrees, CedarPrefixAgrees, CedarLinesAgree, CedarBlockAgrees, CedarStartAgrees, CedarAmendAgrees, CedarUndoAgrees, PutAgrees, PrintedListingAgrees, PrintedLinesAgree, PrintedBlockAgrees}
+use Rattle.demands.specs.Agree.{FixesOne, FixesTwo, FixesAll, JudgeAgrees, StepAgrees, FindAgrees, PrefixAgrees, LinesAgree, ContentAgrees, BlockAgrees, OpenAgrees, StartAgrees, AmendAgrees, UndoAgrees, CedarJudgeAgrees, CedarPrefixAgrees, CedarLinesAgree, CedarBlockAgrees, CedarStartAgrees, CedarAmendAgrees, CedarUndoAgrees, PutAgrees, PrintedListingAgrees, PrintedLinesAgree, PrintedBlockAgrees}
 
 -- the case that a refusal's numbers tell
 refusalCase : Answer → Refusal
@@ -197,6 +199,25 @@ amended-back (amending.Refused (rows.Block r)) =
     let far : (m : ℕ) → 10 ≤ m → eqb (refusalOf r .n) m ≡ false = λ m h. other r m (inr h) in
     simp (other r 0 (inl refl), far 40 (omega arith), far 41 (omega arith), far 42 (omega arith), far 43 (omega arith), far 44 (omega arith), far 45 (omega arith), far 46 (omega arith))
     (ap (λ b. amending.Refused (rows.Block b)) (refusal-back r))
+
+-- ---- what is fixed
+
+-- 0 is not 1, and no byte is not one byte
+zero-one : _≡_ {A = ℕ} 0 1 → ⊥
+zero-one e = absurd (omega (arith, e))
+
+none-one : _≡_ {A = List ℕ} [] (0 ∷ []) → ⊥
+none-one e = zero-one (ap length e)
+
+pub fixes-all : FixesAll
+fixes-all = (
+  λ f. zero-one (f 0 1 tt tt),
+  λ f. zero-one (f 0 1 [] [] refl refl .0),
+  λ f. none-one (f 0 0 [] (0 ∷ []) refl refl .1),
+  λ f. zero-one (f 0 1 [] [] [] [] (refl, refl) (refl, refl) .0),
+  λ f. none-one (f 0 0 [] (0 ∷ []) [] [] (refl, refl) (refl, refl) .1),
+  λ f. none-one (f 0 0 [] [] [] (0 ∷ []) (refl, refl) (refl, refl) .2),
+)
 
 -- ---- the calls
 

@@ -13,8 +13,8 @@ use Rattle.write_lines.specs.Lines.{linesOf}
 use Rattle.write_lines.specs.Text.{textOf}
 use Rattle.write_lines.specs.Columns.{columnsBefore}
 use Rattle.sheet.specs.Sheets.{Entry}
-use Rattle.block_value.specs.Places.{recordNumber, newValue, found, withValue}
-use Rattle.block_value.proofs.Named.{Named, named-inside}
+use Rattle.block_value.specs.Places.{recordNumber, newValue, found, withValue, NamesValuePlace}
+use Rattle.block_value.proofs.Named.{named-inside}
 use Rattle.demands.specs.Lines.{Outside, Shows, SameAt}
 use Rattle.demands.specs.Demand3.{putIn, bytesBefore}
 use Rattle.demands.proofs.Lines.{six-columns, word-stands}
@@ -53,7 +53,7 @@ module _ (rs ss : List (List ℕ)) (alike : Alike rs ss) where
 
 -- ---- one amendment
 
-module _ (rs : List (List ℕ)) (e : Entry) (good : All RecordOk rs) (p : Named rs e) where
+module _ (rs : List (List ℕ)) (e : Entry) (good : All RecordOk rs) (p : NamesValuePlace rs e) where
   -- the records around it
   around : rs ≡ take (recordsBefore e) rs ++ its rs e ∷ drop (suc (recordsBefore e)) rs
   around = split-at rs (recordsBefore e) [] (named-inside rs e p)
@@ -94,6 +94,6 @@ module _ (rs : List (List ℕ)) (es : List Entry) (good : All RecordOk rs) (s : 
   stack-shows =
       let ps = putIn rs es in
       let alike = putIn-alike rs es good s in
-      all-map (Named rs) (λ e. Shows (textOf ps) (bytesBefore rs e) (found ps e))
+      all-map (NamesValuePlace rs) (λ e. Shows (textOf ps) (bytesBefore rs e) (found ps e))
       (λ e p. subst (λ c. Shows (textOf ps) c (found ps e)) (column-same rs ps alike e) (named-shows ps e (putIn-good rs es good s) (alike-named rs ps alike e p)))
       es (stack-named rs es good s)

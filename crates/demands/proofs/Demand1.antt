@@ -1,5 +1,5 @@
 -- Demand 1 holds.
-use mathlib.Core.Path.{_≡_, refl, ap, sym}
+use mathlib.Core.Path.{_≡_, refl, ap, sym, _∙_}
 use mathlib.Core.Logic.{_⊎_, inl, inr}
 use mathlib.Core.Bool.{Bool, true, false, _&&_, not}
 use mathlib.Core.List.{List, [], _∷_}
@@ -9,7 +9,7 @@ use borrow.Author.Tests.{ltb-true, leb-false}
 use lib.Dec.{ltb, eqb, leb}
 use lib.ListN.{length, length-append, length-take}
 use Rattle.units.specs.Choice.{if_then_else_}
-use Rattle.units.specs.Answers.{answer, Verdict, passed, refused, onward, Packs}
+use Rattle.units.specs.Answers.{answer, Verdict, passed, refused, onward, answered, takenApart, Packs}
 use Rattle.units.proofs.Packing.{taken-apart}
 use Rattle.units.proofs.Verdicts.{and-on, never-passed}
 use Rattle.words.specs.Words.{All, Below, blockFrom}
@@ -23,12 +23,12 @@ use Rattle.write_lines.proofs.Outcome.{outcome-told}
 use Rattle.block.proofs.Known.{KnownBlock, judged-known}
 use Rattle.prefix.specs.declared.Letters.{Letters}
 use Rattle.prefix.specs.LookUp.{beside}
-use Rattle.prefix.specs.Table.{table, dashes, prefixOf}
-use Rattle.cedar.specs.Calls.{prefixAnswer}
+use Rattle.prefix.specs.Table.{table, dashes, prefixOf, answerOf}
+use Rattle.cedar.specs.Calls.{returned, converted, returnedBoth, amendedBoth}
 use Rattle.read_text.specs.Cases.{TextRow}
 use Rattle.read_text.specs.Block.{readText, wordsIn, toBlock}
 use Rattle.read_text.proofs.Known.{WordsFit, text-known, answer-told}
-use Rattle.demands.specs.Demand1.{Judgement, JudgeAnswers, PrefixAnswers, LinesAnswers, ContentAnswers, BlockAnswers, Writes, SheetRow, OpenAnswers, StartAnswers, BothAnswer, AmendRow, AmendAnswers, UndoRow, UndoAnswers}
+use Rattle.demands.specs.Demand1.{Unpacks, Judgement, JudgeAnswers, PrefixAnswers, LinesAnswers, ContentAnswers, BlockAnswers, Writes, SheetRow, OpenAnswers, StartAnswers, BothAnswer, AmendRow, AmendAnswers, UndoRow, UndoAnswers, CedarJudgeTells, CedarPrefixTells, TellsWritten, CedarLinesTell, CedarBlockTells, CedarStartTells, TellsBoth, CedarAmendTells, CedarUndoTells}
 use Rattle.units.specs.declared.Answer.{Answer}
 use Rattle.units.proofs.Choosing.{by-test, both-ways}
 use Rattle.words.proofs.Laws.{getD-below}
@@ -38,7 +38,7 @@ use Rattle.block.proofs.Exact.{only-good}
 use Rattle.sheet.specs.Sheets.{Entry, version1, sheetBytes, sheetOf, entriesOf, broken, countIn, opened, started}
 use Rattle.sheet.proofs.Sheets.{sheet-opened}
 use Rattle.block_value.specs.Places.{recordNumber, wordNumber, oldValue, recordIn, noRecord, noValue, found, stands}
-use Rattle.amending.specs.Amending.{Both, both, amendable, undoable, lastOf, leaving, onBoth}
+use Rattle.amending.specs.Amending.{Outcome, Both, both, amendable, undoable, lastOf, leaving, onBoth, amend, undo}
 use Rattle.units.proofs.Told.{Known}
 
 -- ---- the calls on a block, on a text, and the prefix call
@@ -86,7 +86,7 @@ dashes-bytes = refl
 
 pub prefix-answers : PrefixAnswers
 prefix-answers instrument =
-    (refl, taken-apart (prefixAnswer instrument) (letters-pack (prefixOf instrument) (beside-bytes table instrument dashes table-bytes dashes-bytes)))
+    (refl, taken-apart (answerOf (prefixOf instrument)) (letters-pack (prefixOf instrument) (beside-bytes table instrument dashes table-bytes dashes-bytes)))
 
 -- what is not a success leaves the output
 kept : (out : List ℕ) (v : Verdict (List ℕ)) → (written out v .answer .n ≡ 0 → ⊥) → written out v .out ≡ out
@@ -212,3 +212,37 @@ undo-answers = on-both UndoRow (inl refl) undoable fine
     fine rs es good most =
         both-ways (Fine UndoRow) (eqb (length es) 0) _ _ (refuses 45 (omega arith) (omega arith))
         (both-ways (Fine UndoRow) (not (stands rs (lastOf es))) _ _ (refuses 46 (omega arith) (omega arith)) (omega (arith, length-take (length es - 1) es)))
+
+-- ---- the calls for C
+
+judgement-unpacks : (Row : ℕ → Type 0) (v : Verdict ℕ) → Judgement Row v → Unpacks (answered v)
+judgement-unpacks Row (passed a) h = h
+judgement-unpacks Row (refused r) h = h .1
+
+pub cedar-judge-tells : CedarJudgeTells
+cedar-judge-tells block r bytes p = ap takenApart p ∙ judgement-unpacks BlockRow (judged block) (judge-answers block bytes)
+
+pub cedar-prefix-tells : CedarPrefixTells
+cedar-prefix-tells instrument r p = ap takenApart p ∙ prefix-answers instrument .1
+
+-- where the answer can be taken apart
+tells-written : (w : Written) (r : ℕ) (after : List ℕ) → Unpacks (w .answer) → returned r after ≡ converted w → TellsWritten w r after
+tells-written w r after u p = (ap (λ x. takenApart (x .number)) p ∙ u, ap (λ x. x .out) p)
+
+pub cedar-lines-tell : CedarLinesTell
+cedar-lines-tell block text after r bytes = tells-written (toLines block text) r after (lines-answers block text bytes .0 .1)
+
+pub cedar-block-tells : CedarBlockTells
+cedar-block-tells text block after r = tells-written (toBlock text block) r after (block-answers text block .0 .1)
+
+pub cedar-start-tells : CedarStartTells
+cedar-start-tells sheet after r = tells-written (started version1 sheet) r after (start-answers sheet .0 .1)
+
+tells-both : (o : Outcome) (r : ℕ) (b s : List ℕ) → Unpacks (o .answer) → returnedBoth r b s ≡ amendedBoth o → TellsBoth o r b s
+tells-both o r b s u p = (ap (λ x. takenApart (x .number)) p ∙ u, ap (λ x. x .block) p, ap (λ x. x .sheet) p)
+
+pub cedar-amend-tells : CedarAmendTells
+cedar-amend-tells e block sheet b s r bytes entries = tells-both (amend version1 e block sheet) r b s (amend-answers e block sheet bytes entries .0 .1)
+
+pub cedar-undo-tells : CedarUndoTells
+cedar-undo-tells block sheet b s r bytes entries = tells-both (undo version1 block sheet) r b s (undo-answers block sheet bytes entries .0 .1)

@@ -18,7 +18,6 @@ use Rattle.write_lines.proofs.Outcome.{when-accepted}
 use Rattle.sheet.specs.Sheets.{Layout, Entry, sheetOf}
 use Rattle.sheet.specs.Rules.{IsEntry}
 use Rattle.sheet.proofs.Sheets.{opened-sheet}
-use Rattle.block_value.proofs.Named.{Named}
 use Rattle.amending.specs.Amending.{buffers, Both, both, amendable, undoable, leaving, onBoth, amend, undo}
 use Rattle.amending.proofs.Steps.{undo-empty}
 use Rattle.demands.specs.Demand3.{Call, amends, undoes, prints, ofBoth, done, doneAll, Buffers, leftBy, fresh, Takes, putIn, stacked, modelled, modelledAll, stackAfter, MayAmend, success, AcceptanceRule, asBuffers, StandingPutIn, LastStands, LinesDiffer, UndoneGivesBack}
@@ -26,6 +25,7 @@ use Rattle.demands.proofs.Values.{alike-count}
 use Rattle.demands.proofs.Stack.{Stack, stack-named, putIn-append, putIn-alike, putIn-block, last-stands}
 use Rattle.demands.proofs.AmendedText.{stack-apart, stack-shows}
 use Rattle.demands.proofs.Model.{Reached, none-reached, amend-either, amend-accepted, reached-on, reached-before, undo-last, from-end}
+use Rattle.block_value.specs.Places.{NamesValuePlace}
 
 -- ---- one call
 
@@ -181,8 +181,8 @@ last-standing y b k cs bytes accepted takes before after e q others =
     let rs = recordsOf b in
     let good = first-good b k bytes accepted .each in
     let s : Stack rs (before ++ e ∷ after) = rw q at (left b k bytes accepted y cs takes .1 .stack) in
-    let n = all-parts (Named rs) before (e ∷ after) (stack-named rs (before ++ e ∷ after) good s) .1 .0 in
-    (record { record-is = (n .least, n .most); value = n .value }, rw q (last-stands rs before after e good s others))
+    let n = all-parts (NamesValuePlace rs) before (e ∷ after) (stack-named rs (before ++ e ∷ after) good s) .1 .0 in
+    (n, rw q (last-stands rs before after e good s others))
 
 pub acceptance-rule : AcceptanceRule
 acceptance-rule y b k cs bytes accepted takes =

@@ -17,3 +17,4 @@ pub mod Values
 pub mod Stack
 pub mod Model
 pub mod AmendedText
+pub mod Programs

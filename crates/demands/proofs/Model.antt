@@ -17,9 +17,9 @@ use Rattle.record.specs.Rules.{RecordOk}
 use Rattle.record.specs.Values.{isValue}
 use Rattle.sheet.specs.Sheets.{Layout, Entry}
 use Rattle.sheet.specs.Rules.{IsEntry}
-use Rattle.block_value.specs.Places.{recordNumber, wordNumber, oldValue, newValue, recordIn, noRecord, noValue, found, withValue, stands}
+use Rattle.block_value.specs.Places.{recordNumber, wordNumber, oldValue, newValue, recordIn, noRecord, noValue, found, withValue, stands, NamesValuePlace}
 use Rattle.amending.specs.Amending.{Both, both, amendable, lastOf, othersOf, undoable}
-use Rattle.block_value.proofs.Named.{is-record, Named}
+use Rattle.block_value.proofs.Named.{is-record}
 use Rattle.amending.proofs.Steps.{amend-passes, undo-standing, it-stands}
 use Rattle.demands.specs.Demand3.{putIn, MayAmend}
 use Rattle.demands.proofs.Values.{Alike, amended-alike, amended-found, put-back, alike-count, alike-value, alike-named}
@@ -51,15 +51,16 @@ module _ (y : Layout) (rs : List (List ℕ)) (es : List Entry) (good : All Recor
         record {
           room = leb-false (y .limit) (length es) room;
           place = record {
-            record-is = (has .0, omega (arith, has .1, alike-count rs ps alike));
+            least = has .0;
+            most = omega (arith, has .1, alike-count rs ps alike);
             value = sym (alike-value rs ps alike (recordNumber e) (wordNumber e)) ∙ value;
           };
           old = sym old;
         }
 
     -- it names a value of the records as they are
-    named : MayAmend y rs es e → Named ps e
-    named a = alike-named rs ps alike e (record { least = a .place .record-is .0; most = a .place .record-is .1; value = a .place .value })
+    named : MayAmend y rs es e → NamesValuePlace ps e
+    named a = alike-named rs ps alike e (a .place)
 
     -- it is refused, or it is an amendment and stands last
     pub amend-either : (P : Verdict Both → Type 0) → ((n a : ℕ) → 0 < n → P (refused (answer n a 0 0)))
@@ -88,7 +89,7 @@ module _ (y : Layout) (rs : List (List ℕ)) (es : List Entry) (good : All Recor
 -- ---- undo
 
 -- row 46 is not given right after an amendment
-new-stands : (rs : List (List ℕ)) (e : Entry) → All RecordOk rs → Named rs e → stands (withValue rs e (newValue e)) e ≡ true
+new-stands : (rs : List (List ℕ)) (e : Entry) → All RecordOk rs → NamesValuePlace rs e → stands (withValue rs e (newValue e)) e ≡ true
 new-stands rs e good p =
     let v = newValue e in
     let n = alike-named rs (withValue rs e v) (amended-alike rs e good p v) e p in

@@ -9,14 +9,13 @@ use Rattle.words.proofs.Lists.{all-map}
 use Rattle.record.specs.Rules.{RecordOk}
 use Rattle.block.specs.Rules.{blockOf, IsBlock}
 use Rattle.sheet.specs.Sheets.{Entry}
-use Rattle.block_value.specs.Places.{oldValue, newValue, found, withValue}
-use Rattle.block_value.proofs.Named.{Named}
+use Rattle.block_value.specs.Places.{oldValue, newValue, found, withValue, NamesValuePlace}
 use Rattle.demands.specs.Demand3.{putIn, Elsewhere}
 use Rattle.demands.proofs.Values.{Alike, steady-size, amended-good, amended-alike, amended-found, alike-count, alike-named, other-found}
 
 -- an entry names a value of these records, its old value stands there, and its new value is a word
 pub record EntryFits (rs : List (List ℕ)) (e : Entry) : Type 0 where
-  pub named : Named rs e
+  pub named : NamesValuePlace rs e
   pub old : found rs e ≡ oldValue e
   pub new : newValue e < 65536
 
@@ -57,12 +56,12 @@ putIn-alike rs [] good s A f t = refl
 putIn-alike rs (e ∷ es) good s A f t = putIn-alike (withValue rs e (newValue e)) es (put-good rs e good (s .0)) (s .1) A f t ∙ put-alike rs e good (s .0) A f t
 
 -- each names a value of the first records
-pub stack-named : (rs : List (List ℕ)) (es : List Entry) → All RecordOk rs → Stack rs es → All (Named rs) es
+pub stack-named : (rs : List (List ℕ)) (es : List Entry) → All RecordOk rs → Stack rs es → All (NamesValuePlace rs) es
 stack-named rs [] good s = tt
 stack-named rs (e ∷ es) good s =
     let ss = withValue rs e (newValue e) in
     let back : Alike ss rs = λ A f t. sym (put-alike rs e good (s .0) A f t) in
-    (s .0 .named, all-map (Named ss) (Named rs) (alike-named ss rs back) es (stack-named ss es (put-good rs e good (s .0)) (s .1)))
+    (s .0 .named, all-map (NamesValuePlace ss) (NamesValuePlace rs) (alike-named ss rs back) es (stack-named ss es (put-good rs e good (s .0)) (s .1)))
 
 -- numbers added up
 abbrev pub total : List ℕ → ℕ
@@ -85,7 +84,7 @@ module _ (rs : List (List ℕ)) (es : List Entry) (good : IsBlock (blockOf rs) r
 -- ---- the value that stands
 
 -- amendments of other places leave what stands at this one
-others-leave : (rs : List (List ℕ)) (e : Entry) (es : List Entry) → All RecordOk rs → Named rs e → Stack rs es → All (Elsewhere e) es → found (putIn rs es) e ≡ found rs e
+others-leave : (rs : List (List ℕ)) (e : Entry) (es : List Entry) → All RecordOk rs → NamesValuePlace rs e → Stack rs es → All (Elsewhere e) es → found (putIn rs es) e ≡ found rs e
 others-leave rs e [] good p s o = refl
 others-leave rs e (f ∷ es) good p s o =
     let ss = withValue rs f (newValue f) in

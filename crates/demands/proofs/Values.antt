@@ -20,8 +20,8 @@ use Rattle.line_plan.specs.Plan.{plan}
 use Rattle.record.proofs.Values.{is-data}
 use Rattle.write_lines.specs.Columns.{endsBefore, columnsBefore}
 use Rattle.sheet.specs.Sheets.{Entry}
-use Rattle.block_value.specs.Places.{recordNumber, wordNumber, recordIn, found, withValue}
-use Rattle.block_value.proofs.Named.{Named, named-inside, named-value}
+use Rattle.block_value.specs.Places.{recordNumber, wordNumber, recordIn, found, withValue, NamesValuePlace}
+use Rattle.block_value.proofs.Named.{named-inside, named-value}
 use Rattle.demands.specs.Demand3.{Elsewhere}
 
 -- ---- a value's word
@@ -83,7 +83,7 @@ recordsBefore e = recordNumber e - 1
 abbrev pub wordsBefore : Entry → ℕ
 wordsBefore e = wordNumber e - 1
 
-module _ (rs : List (List ℕ)) (e : Entry) (good : All RecordOk rs) (p : Named rs e) where
+module _ (rs : List (List ℕ)) (e : Entry) (good : All RecordOk rs) (p : NamesValuePlace rs e) where
   inside : recordsBefore e < length rs
   inside = named-inside rs e p
 
@@ -133,13 +133,13 @@ module _ (rs ss : List (List ℕ)) (alike : Alike rs ss) where
   pub alike-value : (n w : ℕ) → isValue (recordIn ss n) w ≡ isValue (recordIn rs n) w
   alike-value n w = alike-record (λ r. isValue r w) (steady-value w) n
 
-  pub alike-named : (e : Entry) → Named rs e → Named ss e
+  pub alike-named : (e : Entry) → NamesValuePlace rs e → NamesValuePlace ss e
   alike-named e p = record { least = p .least; most = omega (arith, p .most, alike-count); value = alike-value (recordNumber e) (wordNumber e) ∙ p .value }
 
 -- ---- at another place
 
 -- what stands at another place stays
-pub other-found : (rs : List (List ℕ)) (e f : Entry) (v : ℕ) → Named rs e → Named rs f → All RecordOk rs → Elsewhere e f → found (withValue rs f v) e ≡ found rs e
+pub other-found : (rs : List (List ℕ)) (e f : Entry) (v : ℕ) → NamesValuePlace rs e → NamesValuePlace rs f → All RecordOk rs → Elsewhere e f → found (withValue rs f v) e ≡ found rs e
 unfolding withValue
 other-found rs e f v p q good other = by (eqb (recordNumber f) (recordNumber e)) refl
   where

@@ -1,6 +1,6 @@
 -- Any two outcomes that a promise allows are the same: one statement for each public call, about the promise that its contract cites.
 use mathlib.Core.Path.{_≡_}
-use mathlib.Core.List.{List}
+use mathlib.Core.List.{List, []}
 use Prim.Native.Nat.{ℕ}
 use Rattle.words.specs.Writing.{Put}
 use Rattle.block.specs.Promises.{Judges}
@@ -25,6 +25,16 @@ FixesOne {R} Promise = (r s : R) (t u : List ℕ) → Promise r t → Promise s 
 -- and one on an answer and two buffers all three
 abbrev pub FixesTwo : {R : Type 0} → (R → List ℕ → List ℕ → Type 0) → Type 0
 FixesTwo {R} Promise = (r s : R) (b c x y : List ℕ) → Promise r b x → Promise s c y → (r ≡ s) × (b ≡ c) × (x ≡ y)
+
+-- that says something: what leaves the answer open fixes nothing, nor what leaves a buffer open
+abbrev pub FixesAll : Type 0
+FixesAll =
+    (Fixes (λ (r : ℕ). Unit {0}) → ⊥)
+    × (FixesOne (λ (r : ℕ) (t : List ℕ). t ≡ []) → ⊥)
+    × (FixesOne (λ (r : ℕ) (t : List ℕ). r ≡ 0) → ⊥)
+    × (FixesTwo (λ (r : ℕ) (b x : List ℕ). (b ≡ []) × (x ≡ [])) → ⊥)
+    × (FixesTwo (λ (r : ℕ) (b x : List ℕ). (r ≡ 0) × (x ≡ [])) → ⊥)
+    × (FixesTwo (λ (r : ℕ) (b x : List ℕ). (r ≡ 0) × (b ≡ [])) → ⊥)
 
 -- ---- the calls
 

@@ -7,7 +7,7 @@ use mathlib.Core.Logic.{_⊎_}
 use mathlib.Core.List.{List}
 use Prim.Native.Nat.{ℕ, _≤_}
 use Rattle.units.specs.declared.Answer.{Answer}
-use Rattle.units.specs.Answers.{answer, Verdict, passed, refused, packedOf, takenApart}
+use Rattle.units.specs.Answers.{answer, Verdict, passed, refused, answered, packedOf, takenApart}
 use Rattle.words.specs.Words.{Below}
 use Rattle.words.specs.Outcomes.{Written}
 use Rattle.block.specs.Cases.{BlockRow}
@@ -18,7 +18,8 @@ use Rattle.read_text.specs.Cases.{TextRow, ToBlockRow}
 use Rattle.read_text.specs.Block.{wordsIn, toBlock}
 use Rattle.sheet.specs.Sheets.{Entry, version1, opened, started}
 use Rattle.amending.specs.Amending.{Outcome, amend, undo}
-use Rattle.cedar.specs.Calls.{prefixAnswer}
+use Rattle.prefix.specs.Table.{prefixOf, answerOf}
+use Rattle.cedar.specs.Promises.{CedarJudges, CedarFindsPrefix, CedarWritesLines, CedarWritesBlock, CedarStartsSheet, CedarAmends, CedarUndoes}
 
 -- ---- the numbers of an answer
 
@@ -69,7 +70,7 @@ StartAnswers = (sheet : List ℕ) → Writes SheetRow sheet (started version1 sh
 
 -- "The prefix call always succeeds"
 abbrev pub PrefixAnswers : Type 0
-PrefixAnswers = (instrument : ℕ) → (prefixAnswer instrument .n ≡ 0) × Unpacks (prefixAnswer instrument)
+PrefixAnswers = (instrument : ℕ) → let r = answerOf (prefixOf instrument) in (r .n ≡ 0) × Unpacks r
 
 -- ---- the calls on a block and its sheet
 
@@ -91,3 +92,43 @@ UndoRow n = (n ≡ 40) ⊎ ((45 ≤ n) × (n ≤ 46))
 
 abbrev pub UndoAnswers : Type 0
 UndoAnswers = (block sheet : List ℕ) → Below 256 block → Below 256 sheet → BothAnswer UndoRow block sheet (undo version1 block sheet)
+
+-- ---- the calls for C
+
+-- "A C call returns them as one unsigned 64-bit number", which a caller takes apart
+abbrev pub Tells : ℕ → Answer → Type 0
+Tells number r = takenApart number ≡ r
+
+-- what a call's promise leaves to a caller: the four numbers of the call's definition
+abbrev pub CedarJudgeTells : Type 0
+CedarJudgeTells = (block : List ℕ) (r : ℕ) → Below 256 block → CedarJudges block r → Tells r (answered (judged block))
+
+abbrev pub CedarPrefixTells : Type 0
+CedarPrefixTells = (instrument r : ℕ) → CedarFindsPrefix instrument r → Tells r (answerOf (prefixOf instrument))
+
+-- and every byte of its output
+abbrev pub TellsWritten : Written → ℕ → List ℕ → Type 0
+TellsWritten w r after = Tells r (w .answer) × (after ≡ w .out)
+
+abbrev pub CedarLinesTell : Type 0
+CedarLinesTell = (block text after : List ℕ) (r : ℕ) → Below 256 block → CedarWritesLines block text r after → TellsWritten (toLines block text) r after
+
+abbrev pub CedarBlockTells : Type 0
+CedarBlockTells = (text block after : List ℕ) (r : ℕ) → CedarWritesBlock text block r after → TellsWritten (toBlock text block) r after
+
+abbrev pub CedarStartTells : Type 0
+CedarStartTells = (sheet after : List ℕ) (r : ℕ) → CedarStartsSheet sheet r after → TellsWritten (started version1 sheet) r after
+
+-- or of its block and sheet
+abbrev pub TellsBoth : Outcome → ℕ → List ℕ → List ℕ → Type 0
+TellsBoth o r block sheet = Tells r (o .answer) × (block ≡ o .block) × (sheet ≡ o .sheet)
+
+abbrev pub CedarAmendTells : Type 0
+CedarAmendTells =
+    (e : Entry) (block sheet b s : List ℕ) (r : ℕ) → Below 256 block → Below 256 sheet → CedarAmends e block sheet r b s →
+    TellsBoth (amend version1 e block sheet) r b s
+
+abbrev pub CedarUndoTells : Type 0
+CedarUndoTells =
+    (block sheet b s : List ℕ) (r : ℕ) → Below 256 block → Below 256 sheet → CedarUndoes block sheet r b s →
+    TellsBoth (undo version1 block sheet) r b s

@@ -3,7 +3,6 @@
 -- back both buffers exactly."
 use mathlib.Core.Path.{_≡_}
 use mathlib.Core.Logic.{_↔_}
-use mathlib.Core.Bool.{true}
 use mathlib.Core.List.{List, [], _∷_, _++_, map}
 use Prim.Native.Nat.{ℕ, _+_, _-_, _≤_, _<_}
 use lib.ListN.{length, take, replicate}
@@ -11,7 +10,6 @@ use Rattle.units.specs.declared.Answer.{Answer}
 use Rattle.units.specs.Answers.{answer, Verdict, passed, refused}
 use Rattle.words.specs.Words.{All, Below}
 use Rattle.words.specs.Outcomes.{written}
-use Rattle.record.specs.Values.{isValue}
 use Rattle.block.specs.Judging.{judged}
 use Rattle.block.specs.Records.{recordsOf}
 use Rattle.block.specs.Rules.{blockOf}
@@ -19,7 +17,7 @@ use Rattle.write_lines.specs.Text.{textOf, toLines}
 use Rattle.write_lines.specs.Columns.{columnsBefore}
 use Rattle.sheet.specs.Sheets.{Layout, Entry, sheetOf}
 use Rattle.sheet.specs.Rules.{IsEntry}
-use Rattle.block_value.specs.Places.{recordNumber, wordNumber, oldValue, newValue, recordIn, found, withValue}
+use Rattle.block_value.specs.Places.{recordNumber, wordNumber, oldValue, newValue, recordIn, NamesValuePlace, found, withValue}
 use Rattle.amending.specs.Amending.{Outcome, buffers, Both, both, amendable, undoable, amend, undo}
 use Rattle.demands.specs.Lines.{Outside, Shows, SameAt}
 
@@ -106,11 +104,6 @@ modelledAll y rs es (c ∷ cs) = let m = modelled y rs es c in m ∷ modelledAll
 abbrev pub stackAfter : Layout → List (List ℕ) → List Entry → List Call → List Entry
 stackAfter y rs es [] = es
 stackAfter y rs es (c ∷ cs) = stackAfter y rs (modelled y rs es c .stack) cs
-
--- an entry that names a "value place": rows 41 and 42, the other way round
-pub record NamesValuePlace (rs : List (List ℕ)) (e : Entry) : Type 0 where
-  pub record-is : (1 ≤ recordNumber e) × (recordNumber e ≤ length rs)
-  pub value : isValue (recordIn rs (recordNumber e)) (wordNumber e) ≡ true
 
 -- "the stated old value stands, in the block so amended, at a value place", and there is room
 pub record MayAmend (y : Layout) (rs : List (List ℕ)) (es : List Entry) (e : Entry) : Type 0 where

@@ -8,3 +8,4 @@ pub mod Examples
 pub mod Agree
 pub mod Sheets
 pub mod Demand3
+pub mod Programs

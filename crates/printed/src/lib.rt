@@ -14,13 +14,13 @@ ghost use Rattle.report.specs.Text.{behind};
 ghost use Rattle.printed.specs.Listing.{signedOf, lettersOf, frontOf, rowOf, rowsOf};
 ghost use Rattle.printed.specs.Promises.{PrintsListing, PrintsLines, PrintsBlock};
 
-// The most bytes that are printed of a listing.
+// Bytes that suffice for any listing.
 pub const LISTING_BYTES: usize = 32768;
 
-// Of a block's lines.
+// For the lines of any block.
 pub const TEXT_BYTES: usize = 55971;
 
-// And of a block.
+// For any block.
 pub const BLOCK_BYTES: usize = 16000;
 
 // Puts the number that a word stands for in two's complement.
