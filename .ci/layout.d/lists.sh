@@ -2,7 +2,7 @@
 
 # Every function that is public or for C: crate::function, its signature, its contract; tabs between.
 functions() {
-    awk '
+    find crates -path '*/src/*.rt' -exec awk '
         FNR == 1 { split(FILENAME, path, "/"); head = "" }
         { sub(/ *\/\/.*/, "") }
         /^ *(pub|extern) ([a-z]+ |"C" )*fn [a-z]/ || head != "" { head = head " " $0 }
@@ -12,7 +12,7 @@ functions() {
             start = match(head, / (requires|ensures) /) ? RSTART : length(head) + 1
             print path[2] "::" name "\t" substr(head, 1, start - 1) "\t" substr(head, start + 1)
             head = ""
-        }' crates/*/src/*.rt
+        }' {} +
 }
 
 # Those for C, by name.
