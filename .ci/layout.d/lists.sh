@@ -25,3 +25,10 @@ calls() {
     awk '/^## / { here = $0 == "## The calls" }
         here && /^\| `/ { gsub(/[|`]/, ""); print $1 "\t" $2 "\t" $3 }' docs/PROMISES.md
 }
+
+# The calls that outsiders are told of: the second column of the table in README, and what the programs call.
+calls_offered() {
+    awk -F '|' '/^## / { here = $0 == "## The calls" }
+        here && /^\|/ { print $3 }' README.md | grep -oE '[a-z0-9_]+::[a-z0-9_]+'
+    grep -ohE 'printed::[a-z0-9_]+' crates/*/src/main.rt
+}
