@@ -3,6 +3,7 @@
 calls_promise() {
     local table='docs/PROMISES.md, "The calls"'
     contracts
+    lacking "is a call of README or of a program, but in no row of $table" <(calls_offered) <(calls | cut -f 1)
     lacking "is in $table, but not defined" <(calls_as 'crates/\1/specs/Promises.antt: \3') <(promises)
     lacking "is in no row of $table" <(promises) <(calls_as 'crates/\1/specs/Promises.antt: \3')
     lacking "is in $table, but not so here" <(calls_as 'crates/demands/specs/Agree.antt: \4 of \3') <(laws)
@@ -17,7 +18,9 @@ calls_as() {
     calls | sed -E "s|^([a-z0-9_]+)::([a-z0-9_]+)\t([A-Za-z]+)\t([A-Za-z]+)\$|$1|"
 }
 
-# Each call is there and ensures `λ r. ⌜ PROMISE ARGUMENTS ⌝`, where the arguments are r, the parameters and buffers afterwards.
+# Each call is there and ensures `λ r. ⌜ PROMISE ARGUMENTS ⌝`, where the arguments are r, the parameters and buffers afterwards, as in
+#     ensures { λ r. ⌜ Judges (now (block .entry)) r ⌝ }
+# whose words, for `applied`, are: ensures { λ r. ⌜ Judges now block .entry r ⌝ }
 contracts() {
     awk -F '\t' '
         function applied(contract, promise,    word, n, i) {

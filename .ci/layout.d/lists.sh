@@ -2,7 +2,7 @@
 
 # Every function that is public or for C: crate::function, its signature, its contract; tabs between.
 functions() {
-    awk '
+    find crates -path '*/src/*.rt' -exec awk '
         FNR == 1 { split(FILENAME, path, "/"); head = "" }
         { sub(/ *\/\/.*/, "") }
         /^ *(pub|extern) ([a-z]+ |"C" )*fn [a-z]/ || head != "" { head = head " " $0 }
@@ -12,7 +12,7 @@ functions() {
             start = match(head, / (requires|ensures) /) ? RSTART : length(head) + 1
             print path[2] "::" name "\t" substr(head, 1, start - 1) "\t" substr(head, start + 1)
             head = ""
-        }' crates/*/src/*.rt
+        }' {} +
 }
 
 # Those for C, by name.
@@ -24,4 +24,11 @@ functions_for_c() {
 calls() {
     awk '/^## / { here = $0 == "## The calls" }
         here && /^\| `/ { gsub(/[|`]/, ""); print $1 "\t" $2 "\t" $3 }' docs/PROMISES.md
+}
+
+# The calls that outsiders are told of: the second column of the table in README, and what the programs call.
+calls_offered() {
+    awk -F '|' '/^## / { here = $0 == "## The calls" }
+        here && /^\|/ { print $3 }' README.md | grep -oE '[a-z0-9_]+::[a-z0-9_]+'
+    grep -ohE 'printed::[a-z0-9_]+' crates/*/src/main.rt
 }

@@ -7,11 +7,34 @@ page_complete() {
     lacking "is in $page, but no function for C" <(quoted <$page | grep -xE 'cedar_[a-z0-9_]+') <(functions_for_c)
     lacking "is an edit in no row of $page" <(edits) <(edits_named)
     lacking "is in $page, but no edit" <(edits_named) <(edits)
+    lacking "is in $page, but so in no specs/Promises.antt" <(promises_told) <(promises_meant)
 }
 
 # What stands in backquotes.
 quoted() {
     grep -o "\`[^\`]*\`" | tr -d "\`"
+}
+
+# Each `NAME ARGUMENTS` of the page, which must say `NAME ARGUMENTS` is `BODY`: as NAME ARGUMENTS = BODY.
+promises_told() {
+    awk -v RS= -F "\`" '{
+            gsub(/[ \t\n]+/, " ")
+            for (i = 2; i <= NF; i += 2)
+                if ($i ~ /^[A-Z][A-Za-z]* [a-z]/) print $i " = " ($(i + 1) == " is " ? $(i + 2) : "..")
+        }' docs/PROMISES.md
+}
+
+# The promises in that form; the body of a record is its field `outcome`.
+promises_meant() {
+    awk -v RS= -F '\n' '{
+            gsub(/\n? +/, " ") # what is indented goes on with the line before
+            for (i = 1; i <= NF; i++) {
+                name = body = $i
+                sub(/^pub record /, "", name); sub(/ : Type .*/, "", name); gsub(/ : [^()]*\)|\(/, "", name)
+                if (sub(/^pub record .* pub outcome : /, "", body)) { sub(/ pub .*/, "", body); print name " = " body }
+                if (body ~ /^[A-Z].* = /) print body
+            }
+        }' crates/*/specs/Promises.antt
 }
 
 edits() {
