@@ -5,7 +5,9 @@ use mathlib.Core.List.{List, [], _∷_, _++_, map}
 use Prim.Native.Nat.{ℕ, suc, _≤_}
 use native.Mathlib.Omega.{arith}
 use lib.ListN.{length, replicate, length-append}
-use Rattle.units.specs.Answers.{answer, Verdict, passed, refused}
+use Rattle.units.specs.declared.Answer.{Answer}
+use Rattle.units.specs.Answers.{answer, Verdict, passed, refused, packedOf, takenApart}
+use Rattle.units.proofs.Packing.{taken-apart}
 use Rattle.words.specs.Words.{All, Below}
 use Rattle.words.specs.Outcomes.{written}
 use Rattle.words.proofs.Lists.{all-parts, all-replicate, all-mapped}
@@ -15,12 +17,12 @@ use Rattle.block.specs.Rules.{blockOf, IsBlock}
 use Rattle.block.proofs.Exact.{only-good, every-good, its-records}
 use Rattle.write_lines.specs.Text.{textOf}
 use Rattle.write_lines.proofs.Outcome.{when-accepted}
-use Rattle.sheet.specs.Sheets.{Layout, Entry, sheetOf}
+use Rattle.sheet.specs.Sheets.{Layout, Entry, version1, sheetOf}
 use Rattle.sheet.specs.Rules.{IsEntry}
 use Rattle.sheet.proofs.Sheets.{opened-sheet}
 use Rattle.amending.specs.Amending.{buffers, Both, both, amendable, undoable, leaving, onBoth, amend, undo}
 use Rattle.amending.proofs.Steps.{undo-empty}
-use Rattle.demands.specs.Demand3.{Call, amends, undoes, prints, ofBoth, done, doneAll, Buffers, leftBy, fresh, Takes, putIn, stacked, modelled, modelledAll, stackAfter, MayAmend, success, AcceptanceRule, asBuffers, StandingPutIn, LastStands, LinesDiffer, UndoneGivesBack}
+use Rattle.demands.specs.Demand3.{Call, amends, undoes, prints, ofBoth, done, doneAll, Buffers, leftBy, fresh, Takes, putIn, stacked, modelled, modelledAll, stackAfter, MayAmend, success, AcceptanceRule, CedarAcceptance, asBuffers, StandingPutIn, LastStands, LinesDiffer, UndoneGivesBack}
 use Rattle.demands.proofs.Values.{alike-count}
 use Rattle.demands.proofs.Stack.{Stack, stack-named, putIn-append, putIn-alike, putIn-block, last-stands}
 use Rattle.demands.proofs.AmendedText.{stack-apart, stack-shows}
@@ -197,6 +199,37 @@ acceptance-rule y b k cs bytes accepted takes =
       amended y rs good es h,
       λ before e q. rw q (undone y rs good before e (rw q at h)),
       λ q. rw q (none-undone y rs good),
+    )
+
+-- where the number returned tells n = 0 the answer has it, and a count of amendments leaves it so
+zero-told : (r : Answer) → takenApart (packedOf r) .n ≡ 0 → r .n ≡ 0
+zero-told r z = omega (arith, z)
+
+zero-kept : (a : ℕ) → a ≤ 64 → takenApart (packedOf (answer 0 a 0 0)) .n ≡ 0
+zero-kept a h = ap (λ r. r .n) (taken-apart (answer 0 a 0 0) (omega arith))
+
+-- some entries, apart from the last
+last-of : (es : List Entry) → 1 ≤ length es → (before : List Entry) × ((e : Entry) × (es ≡ before ++ e ∷ []))
+last-of = from-end (λ es. 1 ≤ length es → (before : List Entry) × ((e : Entry) × (es ≡ before ++ e ∷ []))) (λ h. absurd (omega arith)) (λ before e ih h. (before, (e, refl)))
+
+pub cedar-acceptance : CedarAcceptance
+cedar-acceptance b k cs bytes accepted takes r block sheet =
+    let es = stackAfter version1 (recordsOf b) [] cs in
+    let p = leftBy version1 (fresh version1 b) cs in
+    let most : length es ≤ 64 = left b k bytes accepted version1 cs takes .1 .most in
+    let rule = acceptance-rule version1 b k cs bytes accepted takes in (
+      λ e q.
+          let is : r ≡ packedOf (amend version1 e (p .block) (p .sheet) .answer) = ap (λ x. x .number) q in (
+            λ z. rule .0 e .0 (zero-told _ (rw is at z)),
+            λ may. rw (is, rule .2 e may) (zero-kept (length (es ++ e ∷ [])) (omega (arith, length-append es (e ∷ []), may .room))),
+          ),
+      λ q.
+          let is : r ≡ packedOf (undo version1 (p .block) (p .sheet) .answer) = ap (λ x. x .number) q in (
+            λ z. rule .1 .0 (zero-told _ (rw is at z)),
+            λ some.
+                let l = last-of es some in
+                rw (is, rule .3 (l .0) (l .1 .0) (l .1 .1)) (zero-kept (length (l .0)) (omega (arith, ap length (l .1 .1), length-append (l .0) (l .1 .0 ∷ [])))),
+          ),
     )
 
 pub undone-gives-back : UndoneGivesBack

@@ -93,41 +93,47 @@ UndoRow n = (n ≡ 40) ⊎ ((45 ≤ n) × (n ≤ 46))
 abbrev pub UndoAnswers : Type 0
 UndoAnswers = (block sheet : List ℕ) → Below 256 block → Below 256 sheet → BothAnswer UndoRow block sheet (undo version1 block sheet)
 
--- ---- the calls for C
+-- ---- the calls for C: what the promise of each leaves to a caller, by the call's definition
 
 -- "A C call returns them as one unsigned 64-bit number", which a caller takes apart
 abbrev pub Tells : ℕ → Answer → Type 0
 Tells number r = takenApart number ≡ r
 
--- what a call's promise leaves to a caller: the four numbers of the call's definition
+-- `cedar_judge`
 abbrev pub CedarJudgeTells : Type 0
 CedarJudgeTells = (block : List ℕ) (r : ℕ) → Below 256 block → CedarJudges block r → Tells r (answered (judged block))
 
+-- `cedar_prefix`
 abbrev pub CedarPrefixTells : Type 0
 CedarPrefixTells = (instrument r : ℕ) → CedarFindsPrefix instrument r → Tells r (answerOf (prefixOf instrument))
 
--- and every byte of its output
+-- the four numbers, and every byte of the output
 abbrev pub TellsWritten : Written → ℕ → List ℕ → Type 0
 TellsWritten w r after = Tells r (w .answer) × (after ≡ w .out)
 
+-- `cedar_to_lines`
 abbrev pub CedarLinesTell : Type 0
 CedarLinesTell = (block text after : List ℕ) (r : ℕ) → Below 256 block → CedarWritesLines block text r after → TellsWritten (toLines block text) r after
 
+-- `cedar_to_block`
 abbrev pub CedarBlockTells : Type 0
 CedarBlockTells = (text block after : List ℕ) (r : ℕ) → CedarWritesBlock text block r after → TellsWritten (toBlock text block) r after
 
+-- `cedar_sheet_start`
 abbrev pub CedarStartTells : Type 0
 CedarStartTells = (sheet after : List ℕ) (r : ℕ) → CedarStartsSheet sheet r after → TellsWritten (started version1 sheet) r after
 
--- or of its block and sheet
+-- the four numbers, and every byte of block and sheet
 abbrev pub TellsBoth : Outcome → ℕ → List ℕ → List ℕ → Type 0
 TellsBoth o r block sheet = Tells r (o .answer) × (block ≡ o .block) × (sheet ≡ o .sheet)
 
+-- `cedar_amend`
 abbrev pub CedarAmendTells : Type 0
 CedarAmendTells =
     (e : Entry) (block sheet b s : List ℕ) (r : ℕ) → Below 256 block → Below 256 sheet → CedarAmends e block sheet r b s →
     TellsBoth (amend version1 e block sheet) r b s
 
+-- `cedar_undo`
 abbrev pub CedarUndoTells : Type 0
 CedarUndoTells =
     (block sheet b s : List ℕ) (r : ℕ) → Below 256 block → Below 256 sheet → CedarUndoes block sheet r b s →

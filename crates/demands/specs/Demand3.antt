@@ -7,7 +7,7 @@ use mathlib.Core.List.{List, [], _∷_, _++_, map}
 use Prim.Native.Nat.{ℕ, _+_, _-_, _≤_, _<_}
 use lib.ListN.{length, take, replicate}
 use Rattle.units.specs.declared.Answer.{Answer}
-use Rattle.units.specs.Answers.{answer, Verdict, passed, refused}
+use Rattle.units.specs.Answers.{answer, Verdict, passed, refused, takenApart}
 use Rattle.words.specs.Words.{All, Below}
 use Rattle.words.specs.Outcomes.{written}
 use Rattle.block.specs.Judging.{judged}
@@ -15,10 +15,11 @@ use Rattle.block.specs.Records.{recordsOf}
 use Rattle.block.specs.Rules.{blockOf}
 use Rattle.write_lines.specs.Text.{textOf, toLines}
 use Rattle.write_lines.specs.Columns.{columnsBefore}
-use Rattle.sheet.specs.Sheets.{Layout, Entry, sheetOf}
+use Rattle.sheet.specs.Sheets.{Layout, Entry, version1, sheetOf}
 use Rattle.sheet.specs.Rules.{IsEntry}
 use Rattle.block_value.specs.Places.{recordNumber, wordNumber, oldValue, newValue, recordIn, NamesValuePlace, found, withValue}
 use Rattle.amending.specs.Amending.{Outcome, buffers, Both, both, amendable, undoable, amend, undo}
+use Rattle.cedar.specs.Promises.{CedarAmends, CedarUndoes}
 use Rattle.demands.specs.Lines.{Outside, Shows, SameAt}
 
 -- ---- the calls
@@ -127,6 +128,15 @@ AcceptanceRule =
     × ((e : Entry) → MayAmend y rs es e → amend y e (p .block) (p .sheet) ≡ success y rs (es ++ e ∷ []))
     × ((before : List Entry) (e : Entry) → es ≡ before ++ e ∷ [] → undo y (p .block) (p .sheet) ≡ success y rs before)
     × (es ≡ [] → undo y (p .block) (p .sheet) ≡ buffers (answer 45 0 0 0) (p .block) (p .sheet))
+
+-- and so of the C calls, by the n that a caller takes out of the number returned
+abbrev pub CedarAcceptance : Type 0
+CedarAcceptance =
+    (b : List ℕ) (k : ℕ) (cs : List Call) → Below 256 b → judged b ≡ passed k → All (Takes version1) cs →
+    let rs = recordsOf b in let es = stackAfter version1 rs [] cs in let p = leftBy version1 (fresh version1 b) cs in
+    (r : ℕ) (block sheet : List ℕ) →
+    ((e : Entry) → CedarAmends e (p .block) (p .sheet) r block sheet → (takenApart r .n ≡ 0) ↔ MayAmend version1 rs es e)
+    × (CedarUndoes (p .block) (p .sheet) r block sheet → (takenApart r .n ≡ 0) ↔ (1 ≤ length es))
 
 -- what the calls leave where the model leaves this
 abbrev pub asBuffers : Layout → List (List ℕ) → Modelled → Done
