@@ -8,7 +8,7 @@ ghost use mathlib.Core.Path.{_≡_};
 ghost use mathlib.Core.List.{_++_};
 ghost use Prim.Native.Nat.{_+_, _^_, _≤_, _<_, min};
 ghost use lib.ListN.{length, take};
-ghost use Rattle.units.specs.Answers.{answer, passed, onward, Packs};
+ghost use Rattle.units.specs.Answers.{answer, fitted, passed, onward};
 ghost use Rattle.words.specs.Scans.{plainIn};
 ghost use Rattle.read_columns.specs.Columns.{plainTo, blankTo, blankAfter, blankLine, columnOf, fieldNumbers, blankField, zeroField, zeroFields};
 ghost use Rattle.read_columns.specs.Cases.{flawOf, testedOf};
@@ -155,8 +155,7 @@ pub fn zero_fields(line: &[u8], num: Lines, from: Words, count: Words) -> Tested
 
 // The four numbers of a refusal.
 pub fn numbers(f: Flaw) -> Answer
-    requires { ⌜ Packs (flawOf f) ⌝ }
-    ensures { λ r. ⌜ (r ≡ flawOf f) × (r .a < 2 ^ 24) ⌝ }
+    ensures { λ r. ⌜ (r ≡ fitted (flawOf f)) × (r .a < 2 ^ 24) ⌝ }
 {
     match f {
         Flaw::Byte(line, column) => at_column(20, line, column),
@@ -174,15 +173,7 @@ pub fn numbers(f: Flaw) -> Answer
 
 // Refusal n at a line and a column.
 fn at_column(n: u8, line: Lines, column: Bytes) -> Answer
-    requires { ⌜ (line .0 < 2 ^ 24) × (column .0 < 2 ^ 16) ⌝ }
-    ensures { λ r. ⌜ (r ≡ answer n (line .0) (column .0) 0) × (r .a < 2 ^ 24) ⌝ }
+    ensures { λ r. ⌜ (r ≡ fitted (answer n (line .0) (column .0) 0)) × (r .a < 2 ^ 24) ⌝ }
 {
-    let a = line.0;
-    let b = column.0;
-    Answer {
-        n,
-        a: a as u32,
-        b: b as u16,
-        c: 0,
-    }
+    units::counted(n, line.0, column.0)
 }

@@ -10,7 +10,7 @@ ghost use mathlib.Core.Path.{_≡_};
 ghost use mathlib.Core.List.{[]};
 ghost use Prim.Native.Nat.{_≤_, _<_, _^_};
 ghost use lib.ListN.{length};
-ghost use Rattle.units.specs.Answers.{answered, Packs};
+ghost use Rattle.units.specs.Answers.{answered, fitted};
 ghost use Rattle.words.specs.Outcomes.{leaves};
 ghost use Rattle.read_cut.specs.Lines.{linesIn};
 ghost use Rattle.read_line.specs.Lines.{readLines};
@@ -99,19 +99,10 @@ pub fn judge(text: &[u8]) -> Content
 
 // The four numbers of what is found of a text.
 pub fn content_numbers(c: Content) -> Answer
-    requires { ⌜ Packs (answered (contentOf c)) ⌝ }
-    ensures { λ r. ⌜ (r ≡ answered (contentOf c)) × (r .a < 2 ^ 24) ⌝ }
+    ensures { λ r. ⌜ (r ≡ fitted (answered (contentOf c))) × (r .a < 2 ^ 24) ⌝ }
 {
     match c {
-        Content::RecordWords(n) => {
-            let words = n.0;
-            Answer {
-                n: 0,
-                a: words as u32,
-                b: 0,
-                c: 0,
-            }
-        }
+        Content::RecordWords(n) => units::counted(0, n.0, 0),
         Content::Flawed(f) => read_columns::numbers(f),
     }
 }
@@ -144,8 +135,7 @@ pub fn to_block(text: &[u8], block: &mut [u8]) -> Built
 
 // The four numbers of an answer.
 pub fn numbers(b: Built) -> Answer
-    requires { ⌜ Packs (builtOf b) ⌝ }
-    ensures { λ r. ⌜ (r ≡ builtOf b) × (r .a < 2 ^ 24) ⌝ }
+    ensures { λ r. ⌜ (r ≡ fitted (builtOf b)) × (r .a < 2 ^ 24) ⌝ }
 {
     match b {
         Built::Block(size) => units::sized(0, size),

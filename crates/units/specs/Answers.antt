@@ -25,6 +25,10 @@ answered (refused r) = r
 abbrev pub packedOf : Answer → ℕ
 packedOf r = r .n * 2 ^ 56 + r .a * 2 ^ 32 + r .b * 2 ^ 16 + r .c
 
+-- a count as far as that has room for it: 24 bits of a, 16 of b
+abbrev pub fitted : Answer → Answer
+fitted r = answer (r .n) (r .a % 2 ^ 24) (r .b % 2 ^ 16) (r .c)
+
 -- the four numbers that a packed one holds
 abbrev pub takenApart : ℕ → Answer
 takenApart p = answer (p / 2 ^ 56) (p / 2 ^ 32 % 2 ^ 24) (p / 2 ^ 16 % 2 ^ 16) (p % 2 ^ 16)

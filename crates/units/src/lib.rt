@@ -2,7 +2,7 @@
 ghost use mathlib.Core.Path.{_≡_};
 ghost use Prim.Native.Nat.{_+_, _*_, _/_, _^_, _<_};
 ghost use Rattle.units.specs.Units.{bytesOfWords, wordsOfBytes, linesOfCards, wordsOfCards, linesOfFields, columnsOfFields, endsOfLines};
-ghost use Rattle.units.specs.Answers.{answer, packedOf};
+ghost use Rattle.units.specs.Answers.{answer, fitted, packedOf};
 
 // A count of 16-bit words, as LTOT of a binary record.
 pub struct Words(pub usize);
@@ -104,18 +104,25 @@ pub fn row(n: u8, a: u16, b: u16, c: u16) -> Answer
     }
 }
 
-// The answer of row n that says `size` bytes.
-pub fn sized(n: u8, size: Bytes) -> Answer
-    requires { ⌜ size .0 < 2 ^ 24 ⌝ }
-    ensures { λ r. ⌜ (r ≡ answer n (size .0) 0 0) × (r .a < 2 ^ 24) ⌝ }
+// The answer of row n that tells two counts, as far as the packing has room for them.
+pub fn counted(n: u8, a: usize, b: usize) -> Answer
+    ensures { λ r. ⌜ (r ≡ fitted (answer n a b 0)) × (r .a < 2 ^ 24) ⌝ }
 {
-    let bytes = size.0;
+    let first = a % 16777216;
+    let second = b % 65536;
     Answer {
         n,
-        a: bytes as u32,
-        b: 0,
+        a: first as u32,
+        b: second as u16,
         c: 0,
     }
+}
+
+// The answer of row n that says `size` bytes.
+pub fn sized(n: u8, size: Bytes) -> Answer
+    ensures { λ r. ⌜ (r ≡ fitted (answer n (size .0) 0 0)) × (r .a < 2 ^ 24) ⌝ }
+{
+    counted(n, size.0, 0)
 }
 
 // The four numbers as one.

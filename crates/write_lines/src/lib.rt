@@ -18,7 +18,7 @@ ghost use Rattle.write_lines.specs.Lines.{linesOf, columnsIn, Writable};
 ghost use Rattle.write_lines.specs.Text.{textOf};
 ghost use Rattle.write_lines.specs.Cases.{linedOf};
 ghost use Rattle.write_lines.specs.Promises.{WritesLines};
-ghost use Rattle.units.specs.Answers.{passed, Packs};
+ghost use Rattle.units.specs.Answers.{passed, fitted};
 ghost use Rattle.words.specs.Outcomes.{written, leaves};
 ghost use Rattle.block.specs.Judging.{Accepted};
 ghost use Rattle.block.specs.Records.{recordsOf};
@@ -173,8 +173,7 @@ pub fn to_lines(block: &[u8], text: &mut [u8]) -> Lined
 
 // The four numbers of an answer.
 pub fn numbers(l: Lined) -> Answer
-    requires { ⌜ Packs (linedOf l) ⌝ }
-    ensures { λ r. ⌜ (r ≡ linedOf l) × (r .a < 2 ^ 24) ⌝ }
+    ensures { λ r. ⌜ (r ≡ fitted (linedOf l)) × (r .a < 2 ^ 24) ⌝ }
 {
     match l {
         Lined::Text(size) => units::sized(0, size),

@@ -1,11 +1,17 @@
-use mathlib.Core.Path.{ap}
+use mathlib.Core.Path.{_≡_, ap, _∙_}
+use Rattle.units.proofs.Packing.{fitted-is}
+use Rattle.read_text.specs.Cases.{builtOf}
 use Rattle.cedar.specs.Calls.{converted}
 use borrow.Author.Needs.{needs}
 use Rattle.cedar.proofs.cedar_to_block.Statement.{statement}
 use Rattle.cedar.proofs.cedar_to_block.Tie as tie
 
+-- the numbers are the answer's, since it packs
+told : (c : tie.After-numbers) → c .numbers .result ≡ builtOf (c .before .before .before .to-block .result)
+told c = let p = c .before .before .before .to-block .ensures .packs in c .numbers .ensures .0 ∙ fitted-is _ (p .a-fits) (p .b-fits)
+
 returns : tie.Need-returns
-returns c = rw (c .pack .ensures, c .before .numbers .ensures .0) (ap converted (c .before .before .before .before .to-block .ensures .outcome))
+returns c = rw (c .pack .ensures, told (c .before)) (ap converted (c .before .before .before .before .to-block .ensures .outcome))
 
 pub cedar-to-block-spec : {M : Type 1} → statement M
 cedar-to-block-spec =

@@ -2,6 +2,7 @@ use mathlib.Core.Path.{_≡_, refl, ap, _∙_}
 use native.Mathlib.Omega.{arith}
 use borrow.Author.Needs.{needs}
 use denote.Ref.{now}
+use Rattle.units.proofs.Packing.{fitted-is}
 use Rattle.words.specs.Outcomes.{leaves}
 use Rattle.words.specs.Writing.{Room}
 use Rattle.report.proofs.Lines.{refusal-most}
@@ -18,7 +19,8 @@ room c = omega (arith, block-bound (now (c .before .before .before .args .text))
 -- the four numbers and the buffer are the call's
 told : (c : tie.After-numbers) → let a = c .before .before .before .before .args in
     leaves (c .numbers .result) (c .before .to-block .last .1 .0) ≡ toBlock (now (a .text)) (now (a .out))
-told c = ap (λ r. leaves r (c .before .to-block .last .1 .0)) (c .numbers .ensures .0) ∙ c .before .to-block .ensures .outcome
+told c = let t = c .before .to-block .ensures in
+    ap (λ r. leaves r (c .before .to-block .last .1 .0)) (c .numbers .ensures .0 ∙ fitted-is _ (t .packs .a-fits) (t .packs .b-fits)) ∙ t .outcome
 
 returns : tie.Need-returns
 returns c = let n = c .before .before .before in let h = room (n .before) in
