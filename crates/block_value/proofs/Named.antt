@@ -1,6 +1,6 @@
 -- An entry names a value of some records.
 use mathlib.Core.Path.{_≡_}
-use mathlib.Core.Bool.{true, false}
+use mathlib.Core.Bool.{false}
 use mathlib.Core.List.{List, []}
 use Prim.Native.Nat.{ℕ, _-_, _≤_, _<_}
 use native.Mathlib.Omega.{arith}
@@ -11,7 +11,6 @@ use Rattle.units.proofs.Verdicts.{or-off}
 use Rattle.words.specs.Words.{All}
 use Rattle.words.proofs.Lists.{all-at}
 use Rattle.record.specs.Rules.{RecordOk}
-use Rattle.record.specs.Values.{isValue}
 use Rattle.record.proofs.Values.{ValueAt, value-at}
 use Rattle.sheet.specs.Sheets.{Entry}
 use Rattle.block_value.specs.Places.{recordNumber, wordNumber, recordIn, noRecord, NamesValuePlace}
