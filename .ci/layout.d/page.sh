@@ -7,7 +7,7 @@ page_complete() {
     lacking "is in $page, but no function for C" <(quoted <$page | grep -xE 'cedar_[a-z0-9_]+') <(functions_for_c)
     lacking "is an edit in no row of $page" <(edits) <(edits_named)
     lacking "is in $page, but no edit" <(edits_named) <(edits)
-    lacking "is in $page, but so in no specs/Promises.antt" <(promises_told) <(promises_meant)
+    lacking "is in $page, but not so in any specs/Promises.antt" <(promises_told) <(promises_meant)
 }
 
 # What stands in backquotes.

@@ -14,7 +14,7 @@ refusals_in() {
     sed 's/-- .*//' | grep -oE 'answer [1-9][0-9]*' | cut -d ' ' -f 2
 }
 
-# Demands and tables are no definitions.
+# The numbers that the definitions answer; demands and tables are none.
 refusals_given() {
     find crates -path '*/specs/*.antt' ! -path 'crates/demands/*' ! -path 'crates/refusals/*' -exec cat {} + | refusals_in
 }

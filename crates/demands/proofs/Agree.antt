@@ -7,7 +7,7 @@ use native.Mathlib.Omega.{arith}
 use borrow.Author.Tests.{ne-eqb}
 use Prim.Native.Nat.{ℕ, _≤_}
 use lib.Dec.{eqb}
-use lib.ListN.{length}
+use lib.ListN.{getD}
 use Rattle.units.specs.Choice.{if_then_else_}
 use Rattle.units.specs.declared.Answer.{Answer}
 use Rattle.units.specs.declared.Lines.{Lines}
@@ -49,7 +49,7 @@ use Rattle.amending.specs.Amending.{Outcome, buffers, amend, undo}
 use Rattle.cedar.specs.Calls.{Returned, returned, converted, ReturnedBoth, returnedBoth, amendedBoth}
 use Rattle.printed.specs.Listing.{listingOf}
 use Rattle.printed.specs.Printed.{linesPrinted, blockPrinted}
-use Rattle.demands.specs.Agree.{FixesOne, FixesTwo, FixesAll, JudgeAgrees, StepAgrees, FindAgrees, PrefixAgrees, LinesAgree, ContentAgrees, BlockAgrees, OpenAgrees, StartAgrees, AmendAgrees, UndoAgrees, CedarJudgeAgrees, CedarPrefixAgrees, CedarLinesAgree, CedarBlockAgrees, CedarStartAgrees, CedarAmendAgrees, CedarUndoAgrees, PutAgrees, PrintedListingAgrees, PrintedLinesAgree, PrintedBlockAgrees}
+use Rattle.demands.specs.Agree.{FixesOne, FixesTwo, OpenNotFixed, JudgeAgrees, StepAgrees, FindAgrees, PrefixAgrees, LinesAgree, ContentAgrees, BlockAgrees, OpenAgrees, StartAgrees, AmendAgrees, UndoAgrees, CedarJudgeAgrees, CedarPrefixAgrees, CedarLinesAgree, CedarBlockAgrees, CedarStartAgrees, CedarAmendAgrees, CedarUndoAgrees, PutAgrees, PrintedListingAgrees, PrintedLinesAgree, PrintedBlockAgrees}
 
 -- the case that a refusal's numbers tell
 refusalCase : Answer → Refusal
@@ -202,21 +202,21 @@ amended-back (amending.Refused (rows.Block r)) =
 
 -- ---- what is fixed
 
--- 0 is not 1, and no byte is not one byte
+-- 0 is not 1, also as a byte
 zero-one : _≡_ {A = ℕ} 0 1 → ⊥
 zero-one e = absurd (omega (arith, e))
 
-none-one : _≡_ {A = List ℕ} [] (0 ∷ []) → ⊥
-none-one e = zero-one (ap length e)
+byte-zero-one : _≡_ {A = List ℕ} (0 ∷ []) (1 ∷ []) → ⊥
+byte-zero-one e = zero-one (ap (λ l. getD l 0 0) e)
 
-pub fixes-all : FixesAll
-fixes-all = (
+pub open-not-fixed : OpenNotFixed
+open-not-fixed = (
   λ f. zero-one (f 0 1 tt tt),
   λ f. zero-one (f 0 1 [] [] refl refl .0),
-  λ f. none-one (f 0 0 [] (0 ∷ []) refl refl .1),
+  λ f. byte-zero-one (f 0 0 (0 ∷ []) (1 ∷ []) (refl, refl) (refl, refl) .1),
   λ f. zero-one (f 0 1 [] [] [] [] (refl, refl) (refl, refl) .0),
-  λ f. none-one (f 0 0 [] (0 ∷ []) [] [] (refl, refl) (refl, refl) .1),
-  λ f. none-one (f 0 0 [] [] [] (0 ∷ []) (refl, refl) (refl, refl) .2),
+  λ f. byte-zero-one (f 0 0 (0 ∷ []) (1 ∷ []) [] [] (refl, refl, refl) (refl, refl, refl) .1),
+  λ f. byte-zero-one (f 0 0 [] [] (0 ∷ []) (1 ∷ []) (refl, refl, refl) (refl, refl, refl) .2),
 )
 
 -- ---- the calls

@@ -2,6 +2,7 @@
 use mathlib.Core.Path.{_≡_}
 use mathlib.Core.List.{List, []}
 use Prim.Native.Nat.{ℕ}
+use lib.ListN.{length}
 use Rattle.words.specs.Writing.{Put}
 use Rattle.block.specs.Promises.{Judges}
 use Rattle.block_steps.specs.Promises.{StepsTo, FindsRecord}
@@ -26,15 +27,15 @@ FixesOne {R} Promise = (r s : R) (t u : List ℕ) → Promise r t → Promise s 
 abbrev pub FixesTwo : {R : Type 0} → (R → List ℕ → List ℕ → Type 0) → Type 0
 FixesTwo {R} Promise = (r s : R) (b c x y : List ℕ) → Promise r b x → Promise s c y → (r ≡ s) × (b ≡ c) × (x ≡ y)
 
--- that says something: what leaves the answer open fixes nothing, nor what leaves a buffer open
-abbrev pub FixesAll : Type 0
-FixesAll =
+-- these three say something: a promise that leaves the answer or a byte open does not fix it
+abbrev pub OpenNotFixed : Type 0
+OpenNotFixed =
     (Fixes (λ (r : ℕ). Unit {0}) → ⊥)
     × (FixesOne (λ (r : ℕ) (t : List ℕ). t ≡ []) → ⊥)
-    × (FixesOne (λ (r : ℕ) (t : List ℕ). r ≡ 0) → ⊥)
+    × (FixesOne (λ (r : ℕ) (t : List ℕ). (r ≡ 0) × (length t ≡ 1)) → ⊥)
     × (FixesTwo (λ (r : ℕ) (b x : List ℕ). (b ≡ []) × (x ≡ [])) → ⊥)
-    × (FixesTwo (λ (r : ℕ) (b x : List ℕ). (r ≡ 0) × (x ≡ [])) → ⊥)
-    × (FixesTwo (λ (r : ℕ) (b x : List ℕ). (r ≡ 0) × (b ≡ [])) → ⊥)
+    × (FixesTwo (λ (r : ℕ) (b x : List ℕ). (r ≡ 0) × (length b ≡ 1) × (x ≡ [])) → ⊥)
+    × (FixesTwo (λ (r : ℕ) (b x : List ℕ). (r ≡ 0) × (b ≡ []) × (length x ≡ 1)) → ⊥)
 
 -- ---- the calls
 

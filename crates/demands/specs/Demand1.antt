@@ -1,7 +1,7 @@
 -- Demand 1: "Any bytes as a block, as lines or as an amendment sheet: each call ends with an accepted answer or one numbered
 -- refusal, relies on no earlier look, and a refused call changes no byte of any lent buffer."
 -- No call has a `requires`, and its outcome is a function of what it was lent: so it ends on any bytes, and no earlier look counts.
--- Here is what that leaves to say: which numbers an answer has, and what a refusal leaves. `Below 256` says that a lent slice has bytes.
+-- Here is what that leaves to say: which numbers an answer has, what a refusal leaves, and what a C caller reads. `Below 256` says that a lent slice has bytes.
 use mathlib.Core.Path.{_≡_}
 use mathlib.Core.Logic.{_⊎_}
 use mathlib.Core.List.{List}
@@ -93,7 +93,7 @@ UndoRow n = (n ≡ 40) ⊎ ((45 ≤ n) × (n ≤ 46))
 abbrev pub UndoAnswers : Type 0
 UndoAnswers = (block sheet : List ℕ) → Below 256 block → Below 256 sheet → BothAnswer UndoRow block sheet (undo version1 block sheet)
 
--- ---- the calls for C: what the promise of each leaves to a caller, by the call's definition
+-- ---- the calls for C: the number returned, taken apart, is the definition's answer, and the buffers are the definition's
 
 -- "A C call returns them as one unsigned 64-bit number", which a caller takes apart
 abbrev pub Tells : ℕ → Answer → Type 0

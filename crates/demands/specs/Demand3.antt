@@ -106,7 +106,7 @@ abbrev pub stackAfter : Layout → List (List ℕ) → List Entry → List Call 
 stackAfter y rs es [] = es
 stackAfter y rs es (c ∷ cs) = stackAfter y rs (modelled y rs es c .stack) cs
 
--- "the stated old value stands, in the block so amended, at a value place", and there is room
+-- the stated old value stands, in the block so amended, at a "value place", and there is room
 pub record MayAmend (y : Layout) (rs : List (List ℕ)) (es : List Entry) (e : Entry) : Type 0 where
   pub room : length es < y .limit
   pub place : NamesValuePlace rs e

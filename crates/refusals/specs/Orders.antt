@@ -3,7 +3,8 @@
 -- first is told, and where it is mended the other. Where the first takes away what the later row is asked of, only the first holds of the two:
 -- 5 with 7 to 9, 23 with the rows behind it on the line (the kind says what is asked), 7 or 8 with 9 (other kinds);
 -- 4 with 8, with a Header's 7, with 9's words 16 and 1 (these words are lacking), 25 with a row of the line that is lacking;
--- 6, and 9 at word 1, with the rows of the next record (where it begins is not known), 23, 27 and 28 with those of later lines (what they are is not known);
+-- 6, and 9 at word 1, with the rows of the next record (where it begins is not known); 22 of a count with 28 and 24, and it, 23 and 27 with 22, 25 and 26 of
+-- later lines (what is asked of them is not known); 28 of Data with 26 of the next line (a field stands there);
 -- 21 with 22 to 28 (a line that is not blank begins a record), 45 with 46 (no entry is the last), 29 with a row before it (what is needed is not known).
 use Prim.Native.Nat.{ℕ, _+_, _-_, _<_}
 use mathlib.Core.Path.{_≡_}

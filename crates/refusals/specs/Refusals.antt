@@ -1,5 +1,5 @@
--- Document 01, "Answer numbers": for each call a least input for each of its refusals. Where a row of the paper names several things there is an input for
--- each. What is proved is the answer; that no shorter input has it was thought through, not proved.
+-- Document 01, "Answer numbers": for each call a least input for each of its refusals. Where a row of the paper names several things, or has an edge, there
+-- is an input for each. What is proved is the answer, not that no shorter input has it.
 use Prim.Native.Nat.{ℕ}
 use mathlib.Core.List.{List, [], _∷_, _++_}
 use lib.ListN.{replicate, take}
@@ -76,7 +76,7 @@ unfolding badBlocks
 blockTrials =
     lentTo judgeBlock badBlocks
     ++ lentTo (λ b. blockToLines b 0) badBlocks
-    ++ lentTo (λ b. amendValue b [] []) badBlocks
+    ++ lentTo (λ b. amendValue b [] (0 ∷ 0 ∷ 0 ∷ 0 ∷ [])) badBlocks
     ++ lentTo (λ b. undoLast b []) badBlocks
 
 -- texts that are refused; a line may end with the text

@@ -25,7 +25,7 @@ answered (refused r) = r
 abbrev pub packedOf : Answer → ℕ
 packedOf r = r .n * 2 ^ 56 + r .a * 2 ^ 32 + r .b * 2 ^ 16 + r .c
 
--- a count as far as that has room for it: 24 bits of a, 16 of b
+-- the low 24 bits of a and the low 16 of b, which is what that has room for
 abbrev pub fitted : Answer → Answer
 fitted r = answer (r .n) (r .a % 2 ^ 24) (r .b % 2 ^ 16) (r .c)
 
