@@ -89,12 +89,12 @@ prefix-answers instrument =
     (refl, taken-apart (answerOf (prefixOf instrument)) (letters-pack (prefixOf instrument) (beside-bytes table instrument dashes table-bytes dashes-bytes)))
 
 -- what is not a success leaves the output
-kept : (out : List ℕ) (v : Verdict (List ℕ)) → (written out v .answer .n ≡ 0 → ⊥) → written out v .out ≡ out
+kept : (n : ℕ) (out : List ℕ) (v : Verdict (List ℕ)) → (written n out v .answer .n ≡ 0 → ⊥) → written n out v .out ≡ out
 unfolding written
-kept out (refused r) h = refl
-kept out (passed bytes) h = by (written-either out bytes) h
+kept n out (refused r) h = refl
+kept n out (passed bytes) h = by (written-either n out bytes) h
   where
-    by : {w : Written} {all : List ℕ} → (w ≡ leaves (answer 29 (length bytes) 0 0) out) ⊎ (w ≡ leaves (answer 0 (length bytes) 0 0) all) → (w .answer .n ≡ 0 → ⊥) → w .out ≡ out
+    by : {w : Written} {all : List ℕ} → (w ≡ leaves (answer n (length bytes) 0 0) out) ⊎ (w ≡ leaves (answer 0 (length bytes) 0 0) all) → (w .answer .n ≡ 0 → ⊥) → w .out ≡ out
     by (inl e) h = ap (λ x. x .out) e
     by (inr e) h = absurd (h (ap (λ x. x .answer .n) e))
 
@@ -102,7 +102,7 @@ pub lines-answers : LinesAnswers
 unfolding toLines
 lines-answers block text bytes =
     let t = outcome-told block text bytes in
-    ((t .0, taken-apart (toLines block text .answer) (t .1)), kept text (onward (judged block) (λ _. passed (textOf (recordsOf block)))))
+    ((t .0, taken-apart (toLines block text .answer) (t .1)), kept 29 text (onward (judged block) (λ _. passed (textOf (recordsOf block)))))
 
 pub content-answers : ContentAnswers
 unfolding wordsIn
@@ -116,7 +116,7 @@ pub block-answers : BlockAnswers
 unfolding toBlock
 block-answers text block =
     let t = answer-told text block in
-    ((t .listed, taken-apart (toBlock text block .answer) (t .packs)), kept block (onward (readText text) (λ ws. passed (blockFrom ws))))
+    ((t .listed, taken-apart (toBlock text block .answer) (t .packs)), kept 29 block (onward (readText text) (λ ws. passed (blockFrom ws))))
 
 -- ---- the calls on a sheet, and on a block and its sheet: rows 40 to 46
 

@@ -40,7 +40,7 @@ lines-read = text-back
 bytes-in : (bytes out : List ℕ) → bytesIn (wrote bytes out) ≡ bytes
 bytes-in bytes out = take-append-seam bytes (drop (length bytes) out)
 
-with-room : (bytes out : List ℕ) → length bytes ≤ length out → written out (passed bytes) ≡ wrote bytes out
+with-room : (bytes out : List ℕ) → length bytes ≤ length out → written 29 out (passed bytes) ≡ wrote bytes out
 unfolding written
 with-room bytes out h = simp (le-ltb (length out) (length bytes) h)
 
@@ -91,9 +91,9 @@ written-accepted t out = by (readText t) refl (text-known t)
         let g = text-gives-block t ws e in
         rw (f, take-append-seam (blockFrom ws) (drop (length (blockFrom ws)) out)) (refl, record { count = length (g .0); is = g .2 })
 
-    by : (v : Verdict (List ℕ)) → readText t ≡ v → Known TextRow (WordsFit 0) v → let w = written out (onward v (λ ws. passed (blockFrom ws))) in w .answer .n ≡ 0 → (length (bytesIn w) ≡ w .answer .a) × Accepted (bytesIn w)
+    by : (v : Verdict (List ℕ)) → readText t ≡ v → Known TextRow (WordsFit 0) v → let w = written 29 out (onward v (λ ws. passed (blockFrom ws))) in w .answer .n ≡ 0 → (length (bytesIn w) ≡ w .answer .a) × Accepted (bytesIn w)
     by (refused r) e h z = absurd (omega (arith, h .listed .0))
-    by (passed ws) e h z = taken ws e (written-either out (blockFrom ws)) z
+    by (passed ws) e h z = taken ws e (written-either 29 out (blockFrom ws)) z
 
 -- the standard lines
 pub standard-read : StandardRead

@@ -108,7 +108,7 @@ module _ (y : Layout) (rs : List (List ℕ)) (good : IsBlock (blockOf rs) rs) wh
   step es h (prints text) is =
       let b = blockOf (putIn rs es) in (
         ap (λ w. record { answer = w .answer; block = b; sheet = sheetOf y es; out = w .out })
-            (when-accepted b text (length rs) (still-judged es h) ∙ ap (λ qs. written text (passed (textOf qs))) (its-records b (putIn rs es) (still-block es h))),
+            (when-accepted b text (length rs) (still-judged es h) ∙ ap (λ qs. written 29 text (passed (textOf qs))) (its-records b (putIn rs es) (still-block es h))),
         h,
       )
 

@@ -94,7 +94,7 @@ abbrev pub modelled : Layout → List (List ℕ) → List Entry → Call → Mod
 modelled y rs es (amends e) = stacked es (amendable y e (both (putIn rs es) es))
 modelled y rs es undoes = stacked es (undoable (both (putIn rs es) es))
 modelled y rs es (prints text) =
-    let w = written text (passed (textOf (putIn rs es))) in record { answer = w .answer; stack = es; out = w .out }
+    let w = written 29 text (passed (textOf (putIn rs es))) in record { answer = w .answer; stack = es; out = w .out }
 
 -- and does, call by call
 abbrev pub modelledAll : Layout → List (List ℕ) → List Entry → List Call → List Modelled

@@ -69,10 +69,10 @@ block-bound t = printed-most blockFrom 16000 (omega arith) (readText t) (λ ws e
 module _ (t out : List ℕ) (room : Room out 0 (blockPrinted t)) {r : Answer} {after : List ℕ} (e : leaves r after ≡ toBlock t out) where
   -- the outcome, by what is read of the text
   abbrev From : Verdict (List ℕ) → Type 0
-  From v = leaves r after ≡ written out (onward v (λ ws. passed (blockFrom ws)))
+  From v = leaves r after ≡ written 29 out (onward v (λ ws. passed (blockFrom ws)))
 
   all-in : (ws : List ℕ) → From (passed ws) → Room out 0 (blockFrom ws) → leaves r after ≡ leaves (answer 0 (0 + length (blockFrom ws)) 0 0) (sets out 0 (blockFrom ws))
-  all-in ws f h = f ∙ sym (all-written out (blockFrom ws) (omega arith) (record { ends = refl; bytes = refl }))
+  all-in ws f h = f ∙ sym (all-written 29 out (blockFrom ws) (omega arith) (record { ends = refl; bytes = refl }))
 
   -- with 0 the block was put in
   pub block-put : r .n ≡ 0 → Put out 0 (blockPrinted t) after (r .a)

@@ -100,10 +100,10 @@ answer-told t out = by (readText t) (text-known t)
     listed (inl e) = inl e
     listed (inr e) = inr (omega arith)
 
-    by : (v : Verdict (List ℕ)) → Known TextRow (WordsFit 0) v → Answered (written out (onward v (λ ws. passed (blockFrom ws))) .answer)
+    by : (v : Verdict (List ℕ)) → Known TextRow (WordsFit 0) v → Answered (written 29 out (onward v (λ ws. passed (blockFrom ws))) .answer)
     by (refused r) h = record { listed = inr (h .listed .0, h .listed .1); packs = h .packs }
     by (passed ws) h =
-        let w = written-told out (blockFrom ws) (omega (arith, length-framed ws, h .most)) in
+        let w = written-told 29 out (blockFrom ws) (omega arith) (omega (arith, length-framed ws, h .most)) in
         record { listed = listed (w .0); packs = w .1 }
 
 content-packs : (t : List ℕ) → Packs (answered (wordsIn t))

@@ -76,7 +76,7 @@ records-put t b b′ n (RecordWords m) a e =
 records-put t b b′ n (Flawed f) a e = let s : storedOf b′ (Flawed f) ≡ stored 0 b (passed (a .records)) = rw (a .is) at e in absurd (never-passed s)
 
 -- the block that an accepted text gives
-block-is : (t out : List ℕ) (n : ℕ) (a : HasWords t n) → toBlock t out ≡ written out (passed (blockFrom (a .records)))
+block-is : (t out : List ℕ) (n : ℕ) (a : HasWords t n) → toBlock t out ≡ written 29 out (passed (blockFrom (a .records)))
 unfolding toBlock
 block-is t out n a = rw (a .is)
 
@@ -86,20 +86,20 @@ module _ (t b : List ℕ) (n : ℕ) (a : HasWords t n) {size : ℕ} (is : size �
   length-is = omega (arith, length-framed (a .records), a .count)
 
   pub block-short : length b < size → leaves (answer 29 size 0 0) b ≡ toBlock t b
-  block-short h = too-short b (blockFrom (a .records)) size length-is h ∙ sym (block-is t b n a)
+  block-short h = too-short 29 b (blockFrom (a .records)) size length-is h ∙ sym (block-is t b n a)
 
   -- its words were put behind the length word, and sealed
   pub block-built : (b′ : List ℕ) (r : Content) {after : List ℕ} → size ≤ length b → storedOf b′ r ≡ stored 0 b (readLines 1 0 [] (linesIn t))
       → after ≡ blockFrom (words (wordsOf b′) 2 (n + 1)) ++ drop (bytesOfWords (n + 2)) b′ → leaves (answer 0 size 0 0) after ≡ toBlock t b
   block-built b′ r room read sealed =
       let p = records-put t b b′ n r a (read ∙ ap (stored 0 b) (sym (line-by-line t (not-long t n a)))) in
-      rw is (all-written b (blockFrom (a .records)) (omega (arith, length-is)) (sealed-put b (a .records) n (a .count) (omega arith) p sealed)) ∙ sym (block-is t b n a)
+      rw is (all-written 29 b (blockFrom (a .records)) (omega (arith, length-is)) (sealed-put b (a .records) n (a .count) (omega arith) p sealed)) ∙ sym (block-is t b n a)
 
 -- a refused text leaves the block as it is
 pub refused-is : (t out : List ℕ) (f : Flaw) → contentOf (Flawed f) ≡ wordsIn t → leaves (flawOf f) out ≡ toBlock t out
 unfolding toBlock written wordsIn
 refused-is t out f e = by (readText t) e
   where
-    by : (v : Verdict (List ℕ)) → contentOf (Flawed f) ≡ onward v (λ ws. passed (length ws)) → leaves (flawOf f) out ≡ written out (onward v (λ ws. passed (blockFrom ws)))
+    by : (v : Verdict (List ℕ)) → contentOf (Flawed f) ≡ onward v (λ ws. passed (length ws)) → leaves (flawOf f) out ≡ written 29 out (onward v (λ ws. passed (blockFrom ws)))
     by (passed ws) same = absurd (never-passed same)
     by (refused r) same = let k : flawOf f ≡ r = cc in ap (λ x. leaves x out) k

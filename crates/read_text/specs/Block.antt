@@ -20,4 +20,4 @@ wordsIn t = onward (readText t) (λ ws. passed (length ws))
 
 -- "At the end 21, then 29": the record words of the text, length word and checksum around them, as bytes
 unfoldable pub toBlock : List ℕ → List ℕ → Written
-toBlock t out = written out (onward (readText t) (λ ws. passed (blockFrom ws)))
+toBlock t out = written 29 out (onward (readText t) (λ ws. passed (blockFrom ws)))

@@ -67,35 +67,35 @@ pub byte-put : (out : List ℕ) (to b : ℕ) → Put out to (b ∷ []) (set out 
 byte-put out to b = record { ends = refl; bytes = refl }
 
 -- the outcome of a conversion: too short an output, or all of it written
-pub too-short : (out bytes : List ℕ) (k : ℕ) → k ≡ length bytes → length out < k → leaves (answer 29 k 0 0) out ≡ written out (passed bytes)
+pub too-short : (n : ℕ) (out bytes : List ℕ) (k : ℕ) → k ≡ length bytes → length out < k → leaves (answer n k 0 0) out ≡ written n out (passed bytes)
 unfolding written
-too-short out bytes k e h = rw e (simp (lt-ltb (length out) (length bytes) (omega arith)))
+too-short n out bytes k e h = rw e (simp (lt-ltb (length out) (length bytes) (omega arith)))
 
-pub all-written : (out bytes : List ℕ) {after : List ℕ} {k : ℕ} → length bytes ≤ length out → Put out 0 bytes after k → leaves (answer 0 k 0 0) after ≡ written out (passed bytes)
+pub all-written : (n : ℕ) (out bytes : List ℕ) {after : List ℕ} {k : ℕ} → length bytes ≤ length out → Put out 0 bytes after k → leaves (answer 0 k 0 0) after ≡ written n out (passed bytes)
 unfolding written
-all-written out bytes h p =
+all-written n out bytes h p =
     let e : 0 + length bytes ≡ length bytes = omega arith in
     simp (le-ltb (length out) (length bytes) h)
     (ap₂ (λ (k : ℕ) (l : List ℕ). leaves (answer 0 k 0 0) l) (p .ends ∙ e) (p .bytes ∙ sets-eq bytes out 0 (omega arith) ∙ ap (λ n. bytes ++ drop n out) e))
 
 -- of some bytes there are two outcomes: too short an output, or all of it written
-pub written-either : (out bytes : List ℕ) → let k = length bytes in
-    (written out (passed bytes) ≡ leaves (answer 29 k 0 0) out) ⊎ (written out (passed bytes) ≡ leaves (answer 0 k 0 0) (bytes ++ drop k out))
+pub written-either : (n : ℕ) (out bytes : List ℕ) → let k = length bytes in
+    (written n out (passed bytes) ≡ leaves (answer n k 0 0) out) ⊎ (written n out (passed bytes) ≡ leaves (answer 0 k 0 0) (bytes ++ drop k out))
 unfolding written
-written-either out bytes = by (ltb (length out) (length bytes))
+written-either n out bytes = by (ltb (length out) (length bytes))
   where
-    by : (t : Bool) → let short = leaves (answer 29 (length bytes) 0 0) out in let all = leaves (answer 0 (length bytes) 0 0) (bytes ++ drop (length bytes) out) in
+    by : (t : Bool) → let short = leaves (answer n (length bytes) 0 0) out in let all = leaves (answer 0 (length bytes) 0 0) (bytes ++ drop (length bytes) out) in
         ((if t then short else all) ≡ short) ⊎ ((if t then short else all) ≡ all)
     by true = inl refl
     by false = inr refl
 
--- the answer then is success or row 29, and has room in the packing
-pub written-told : (out bytes : List ℕ) → length bytes < 2 ^ 24 → let r = written out (passed bytes) .answer in ((r .n ≡ 0) ⊎ (r .n ≡ 29)) × Packs r
-written-told out bytes h = by (written-either out bytes)
+-- the answer then is success or that row, and has room in the packing
+pub written-told : (n : ℕ) (out bytes : List ℕ) → n < 2 ^ 8 → length bytes < 2 ^ 24 → let r = written n out (passed bytes) .answer in ((r .n ≡ 0) ⊎ (r .n ≡ n)) × Packs r
+written-told n out bytes m h = by (written-either n out bytes)
   where
-    sized : (n : ℕ) → n ≤ 29 → Packs (answer n (length bytes) 0 0)
-    sized n m = omega arith
+    sized : (k : ℕ) → k < 2 ^ 8 → Packs (answer k (length bytes) 0 0)
+    sized k m = omega arith
 
-    by : {w : Written} {o : List ℕ} → (w ≡ leaves (answer 29 (length bytes) 0 0) out) ⊎ (w ≡ leaves (answer 0 (length bytes) 0 0) o) → ((w .answer .n ≡ 0) ⊎ (w .answer .n ≡ 29)) × Packs (w .answer)
-    by (inl e) = rw e (inr refl, sized 29 (omega arith))
+    by : {w : Written} {o : List ℕ} → (w ≡ leaves (answer n (length bytes) 0 0) out) ⊎ (w ≡ leaves (answer 0 (length bytes) 0 0) o) → ((w .answer .n ≡ 0) ⊎ (w .answer .n ≡ n)) × Packs (w .answer)
+    by (inl e) = rw e (inr refl, sized n m)
     by (inr e) = rw e (inl refl, sized 0 (omega arith))

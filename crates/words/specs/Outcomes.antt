@@ -16,9 +16,9 @@ pub record Written : Type 0 where
 abbrev pub leaves : Answer → List ℕ → Written
 leaves r out = record { answer = r; out = out }
 
--- "Success is n = 0 with a = ... bytes written (conversions)"; row 29: "output shorter than needed: a = bytes needed"; "Bytes of an output past those written stay"
-unfoldable pub written : List ℕ → Verdict (List ℕ) → Written
-written out (refused r) = leaves r out
-written out (passed bytes) =
-    if ltb (length out) (length bytes) then leaves (answer 29 (length bytes) 0 0) out
+-- "Success is n = 0 with a = ... bytes written (conversions)"; "output shorter than needed: a = bytes needed", which is row `short`; "Bytes of an output past those written stay"
+unfoldable pub written : ℕ → List ℕ → Verdict (List ℕ) → Written
+written short out (refused r) = leaves r out
+written short out (passed bytes) =
+    if ltb (length out) (length bytes) then leaves (answer short (length bytes) 0 0) out
     else leaves (answer 0 (length bytes) 0 0) (bytes ++ drop (length bytes) out)

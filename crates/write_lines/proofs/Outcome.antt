@@ -26,7 +26,7 @@ when-refused : (b out : List ℕ) (r : Answer) → judged b ≡ refused r → to
 unfolding toLines written
 when-refused b out r e = rw e
 
-pub when-accepted : (b out : List ℕ) (k : ℕ) → judged b ≡ passed k → toLines b out ≡ written out (passed (textOf (recordsOf b)))
+pub when-accepted : (b out : List ℕ) (k : ℕ) → judged b ≡ passed k → toLines b out ≡ written 29 out (passed (textOf (recordsOf b)))
 unfolding toLines
 when-accepted b out k e = rw e
 
@@ -35,7 +35,7 @@ module _ (b out : List ℕ) {j : Judged} (e : judgedOf j ≡ judged b) where
   pub lines-refused : {r : Refusal} → j ≡ Refused r → leaves (refusalOf r) out ≡ toLines b out
   lines-refused is = sym (when-refused b out _ (sym e ∙ ap judgedOf is))
 
-  pub lines-accepted : {k : ℕ} {w : Written} → j ≡ Records k → w ≡ written out (passed (textOf (recordsOf b))) → w ≡ toLines b out
+  pub lines-accepted : {k : ℕ} {w : Written} → j ≡ Records k → w ≡ written 29 out (passed (textOf (recordsOf b))) → w ≡ toLines b out
   lines-accepted is put = put ∙ sym (when-accepted b out _ (sym e ∙ ap judgedOf is))
 
 -- the answer's numbers: with 0 and 29 at most 55,971 bytes
@@ -49,7 +49,7 @@ outcome-told b out h = by (judged b) refl (judged-known b h)
     by : (v : Verdict ℕ) → judged b ≡ v → KnownBlock v → ((toLines b out .answer .n ≡ 0) ⊎ LinesRow (toLines b out .answer .n)) × Packs (toLines b out .answer)
     by (refused r) e t = rw (when-refused b out r e) (inr (inl (t .listed)), t .packs)
     by (passed k) e t =
-        let w = written-told out (textOf (recordsOf b)) (omega (arith, text-bound b h (record { count = k; is = e }))) in
+        let w = written-told 29 out (textOf (recordsOf b)) (omega arith) (omega (arith, text-bound b h (record { count = k; is = e }))) in
         rw (when-accepted b out k e) (listed (w .0), w .1)
 
 -- so an outcome that is the definition's keeps the promise

@@ -15,4 +15,4 @@ textOf (r ∷ rs) = ended (linesOf r) ++ textOf rs
 
 -- "To lines: the block, then 29"
 unfoldable pub toLines : List ℕ → List ℕ → Written
-toLines block out = written out (onward (judged block) (λ _. passed (textOf (recordsOf block))))
+toLines block out = written 29 out (onward (judged block) (λ _. passed (textOf (recordsOf block))))

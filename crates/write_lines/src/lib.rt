@@ -150,7 +150,7 @@ pub fn write_records(block: &[u8], out: &mut [u8]) -> Bytes
 // Writes an accepted block's text, if the lent text has room for it.
 fn write_text(block: &[u8], text: &mut [u8]) -> Lined
     requires { ⌜ Accepted (now block) ⌝ }
-    ensures { λ r. ⌜ leaves (linedOf r) (now (text .exit)) ≡ written (now (text .entry)) (passed (textOf (recordsOf (now (block .entry))))) ⌝ }
+    ensures { λ r. ⌜ leaves (linedOf r) (now (text .exit)) ≡ written 29 (now (text .entry)) (passed (textOf (recordsOf (now (block .entry))))) ⌝ }
 {
     let needed = text_size(block);
     let bytes = needed.0;
