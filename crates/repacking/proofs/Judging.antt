@@ -1,0 +1,140 @@
+-- A loop that judges block after block of a slice, and counts the bytes of their records packed again.
+use mathlib.Core.Path.{_≡_, refl, sym, ap, _∙_}
+use mathlib.Core.List.{List, [], _∷_, _++_, flatten, append-nil, append-assoc}
+use Prim.Native.Nat.{ℕ, _+_, _*_, _≤_, _<_}
+use native.Mathlib.Omega.{arith}
+use lib.ListN.{length, take, drop, length-drop, drop-of-length-le}
+use lib.Seq.{drop-drop, append-snoc, length-take-le}
+use Rattle.units.specs.declared.Answer.{Answer}
+use Rattle.units.specs.Units.{bytesOfWords}
+use Rattle.units.specs.Answers.{Verdict, passed, refused, onward}
+use Rattle.words.specs.Words.{joined, All, Below, mostRecordWords}
+use Rattle.words.proofs.Lists.{all-append, all-take}
+use Rattle.words.proofs.Sealing.{length-framed}
+use Rattle.block.specs.Judging.{Accepted}
+use Rattle.block.specs.Records.{recordsOf}
+use Rattle.block.specs.Rules.{BlockRecord}
+use Rattle.block.proofs.Exact.{only-good}
+use Rattle.repacking.specs.declared.Place.{Place}
+use Rattle.repacking.specs.Blocks.{judgeBlock, before, blocksFrom, recordsIn, mostBytes}
+use Rattle.repacking.specs.Packing.{repacked}
+use Rattle.repacking.specs.Places.{placeAt, placeAfter, bytesTo, Countable}
+use Rattle.repacking.proofs.Slices.{FirstIs, first-is, blocks-stop, blocks-next}
+use Rattle.repacking.proofs.Made.{block-records}
+use Rattle.repacking.proofs.Places.{After, after, after-append, repacked-bytes}
+
+-- what an accepted block has: good records, and the words that its bytes leave for them
+pub record Holds (b : List ℕ) : Type 0 where
+  pub each : All BlockRecord (recordsOf b)
+  pub size : length b ≡ bytesOfWords (length (joined (recordsOf b)) + 2)
+  pub most : length (joined (recordsOf b)) ≤ mostRecordWords
+
+pub holds : (b : List ℕ) → Below 256 b → Accepted b → Holds b
+holds b bytes a =
+    let g = only-good b (a .count) bytes (a .is) .0 in
+    record { each = block-records (recordsOf b) (g .each) (g .most); size = ap length (g .bytes) ∙ length-framed (joined (recordsOf b)); most = g .most }
+
+-- the records of blocks, and of one more
+records-snoc : (bs : List (List ℕ)) (b : List ℕ) → recordsIn (bs ++ (b ∷ [])) ≡ recordsIn bs ++ recordsOf b
+unfolding flatten
+records-snoc [] b = append-nil (recordsOf b)
+records-snoc (c ∷ bs) b = ap (λ l. recordsOf c ++ l) (records-snoc bs b) ∙ sym (append-assoc (recordsOf c) (recordsIn bs) (recordsOf b))
+
+-- it has come to a place: the blocks before it passed, and what is judged from there on gives the whole
+pub record Judging (slice : List ℕ) (at number : ℕ) (p : Place) : Type 0 where
+  pub done : List (List ℕ)
+  pub same : blocksFrom 0 1 slice ≡ onward (blocksFrom 0 number (drop at slice)) (λ bs. passed (done ++ bs))
+  pub place : p ≡ placeAfter (placeAt 0 0) (recordsIn done)
+  pub each : All BlockRecord (recordsIn done)
+  pub used : p .used .0 ≤ mostRecordWords
+  pub few : p .start .0 + bytesOfWords (p .used .0) ≤ 2 * at
+  pub number-least : 1 ≤ number
+  pub number-most : 36 * number ≤ at + 36
+  pub within : at ≤ length slice
+
+onward-onward : (v : Verdict (List (List ℕ))) → v ≡ onward v (λ bs. passed bs)
+onward-onward (passed bs) = refl
+onward-onward (refused r) = refl
+
+pub judging-start : (slice : List ℕ) → Judging slice 0 1 (placeAt 0 0)
+unfolding placeAfter flatten
+judging-start slice =
+    record {
+      done = [];
+      same = onward-onward (blocksFrom 0 1 slice);
+      place = refl;
+      each = tt;
+      used = omega arith;
+      few = omega arith;
+      number-least = omega arith;
+      number-most = omega arith;
+      within = omega arith;
+    }
+
+-- what is asked: the bytes needed, or the refusal
+abbrev pub needed : List ℕ → Verdict ℕ
+needed slice = onward (blocksFrom 0 1 slice) (λ bs. passed (length (repacked (recordsIn bs))))
+
+module _ {slice : List ℕ} {at number : ℕ} {p : Place} (j : Judging slice at number p) where
+  -- at the end all blocks passed
+  pub all-judged : {size : ℕ} → length slice ≤ at → size ≡ bytesTo p → passed size ≡ needed slice
+  unfolding blocksFrom
+  all-judged end is =
+      let none : drop at slice ≡ [] = drop-of-length-le slice {i = at} end in
+      let all : blocksFrom 0 1 slice ≡ passed (j .done) = j .same ∙ ap (λ l. onward (blocksFrom 0 number l) (λ bs. passed (j .done ++ bs))) none ∙ ap (λ l. passed l) (append-nil (j .done)) in
+      rw all (ap (λ n. passed n) (is ∙ ap bytesTo (j .place) ∙ repacked-bytes (recordsIn (j .done)) (j .each)))
+
+  -- the next block, which is refused or passes
+  module _ {rest : List ℕ} (lent : rest ≡ drop at slice) (here : at < length slice) where
+    some-left : 0 < length rest
+    some-left = omega (arith, ap length lent, length-drop at slice)
+
+    pub judged-stop : {v : Verdict ℕ} {r : Answer} → v ≡ judgeBlock number rest → v ≡ refused r → refused r ≡ needed slice
+    judged-stop {v} {r} e is =
+        let stop : blocksFrom 0 number (drop at slice) ≡ refused r = ap (blocksFrom 0 number) (sym lent) ∙ blocks-stop number r rest some-left (sym e ∙ is) in
+        sym (ap (λ v. onward v (λ bs. passed (length (repacked (recordsIn bs))))) (j .same ∙ ap (λ v. onward v (λ bs. passed (j .done ++ bs))) stop))
+
+    module _ {v : Verdict ℕ} {k : ℕ} (e : v ≡ judgeBlock number rest) (is : v ≡ passed k) where
+      pub first : FirstIs rest k
+      first = first-is number k rest (sym e ∙ is)
+
+      onto-done : (b : List ℕ) (v : Verdict (List (List ℕ))) → onward (before b v) (λ bs. passed (j .done ++ bs)) ≡ onward v (λ bs. passed (j .done ++ (b ∷ []) ++ bs))
+      onto-done b (passed bs) = ap (λ l. passed l) (sym (append-snoc (j .done) b bs))
+      onto-done b (refused r) = refl
+
+      same-on : blocksFrom 0 1 slice ≡ onward (blocksFrom 0 (number + 1) (drop (at + k) slice)) (λ bs. passed (j .done ++ (take k rest ∷ []) ++ bs))
+      same-on =
+          let on = blocks-next number k rest some-left (sym e ∙ is) in
+          let next : blocksFrom 0 (number + 1) (drop k rest) ≡ blocksFrom 0 (number + 1) (drop (at + k) slice) = ap (blocksFrom 0 (number + 1)) (ap (drop k) lent ∙ drop-drop k at slice) in
+          j .same
+          ∙ ap (λ l. onward (blocksFrom 0 number l) (λ bs. passed (j .done ++ bs))) (sym lent)
+          ∙ ap (λ v. onward v (λ bs. passed (j .done ++ bs))) on
+          ∙ onto-done (take k rest) (blocksFrom 0 (number + 1) (drop k rest))
+          ∙ ap (λ v. onward v (λ bs. passed (j .done ++ (take k rest ∷ []) ++ bs))) next
+
+      -- it is lent, and its records are counted
+      module _ (bytes : Below 256 rest) (short : length slice ≤ mostBytes) where
+        its : Holds (take k rest)
+        its = holds (take k rest) (all-take (λ x. x < 256) k rest bytes) (first .good)
+
+        words-in : bytesOfWords (length (joined (recordsOf (take k rest))) + 2) ≡ k
+        words-in = sym (its .size) ∙ length-take-le k rest (first .room)
+
+        pub countable : Countable p (recordsOf (take k rest))
+        countable = record { used = j .used; bytes = omega (arith, j .few, its .most) }
+
+        pub judged-on : {q : Place} → q ≡ placeAfter p (recordsOf (take k rest)) → Judging slice (at + k) (number + 1) q
+        judged-on {q} put =
+            let b = take k rest in
+            let a : After p (recordsOf b) q = rw put (after p (recordsOf b) (j .used) (its .each)) in
+            record {
+              done = j .done ++ (b ∷ []);
+              same = same-on;
+              place = put ∙ ap (λ o. placeAfter o (recordsOf b)) (j .place) ∙ after-append (placeAt 0 0) (recordsIn (j .done)) (recordsOf b) ∙ ap (placeAfter (placeAt 0 0)) (sym (records-snoc (j .done) b));
+              each = rw (records-snoc (j .done) b) (all-append BlockRecord (recordsIn (j .done)) (recordsOf b) (j .each) (its .each));
+              used = a .used;
+              few = omega (arith, a .most, j .few, words-in);
+              number-least = omega arith;
+              number-most = omega (arith, j .number-most, first .least);
+              within = omega (arith, first .room, ap length lent, length-drop at slice);
+            }

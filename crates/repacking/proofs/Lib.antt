@@ -1,0 +1,12 @@
+pub mod Slices
+pub mod Groups
+pub mod Fewest
+pub mod Made
+pub mod Known
+pub mod Places
+pub mod Judging
+pub mod Stores
+pub mod Writing
+pub mod Putting
+pub mod Rewriting
+pub mod Outcome

@@ -1,0 +1,44 @@
+-- Document 02, request 1: records packed into blocks again, and the call that writes them.
+use Prim.Native.Nat.{ℕ, _+_}
+use mathlib.Core.List.{List, [], _∷_, map}
+use lib.Dec.{leb}
+use lib.ListN.{length}
+use Rattle.units.specs.Choice.{if_then_else_}
+use Rattle.units.specs.Answers.{passed, onward}
+use Rattle.words.specs.Words.{joined, mostRecordWords}
+use Rattle.words.specs.Outcomes.{Written, written}
+use Rattle.block.specs.Rules.{blockOf}
+use Rattle.repacking.specs.Blocks.{blocksIn, recordsIn}
+
+-- the records of a block
+abbrev pub Group : Type 0
+Group = List (List ℕ)
+
+-- a record in front of the first group
+abbrev pub onto : List ℕ → List Group → List Group
+onto r [] = (r ∷ []) ∷ []
+onto r (g ∷ gs) = (r ∷ g) ∷ gs
+
+-- "A record goes into the current block if it fits, else into a new one": what goes into the current one behind its `used` words, and into each new one
+unfoldable pub packed : ℕ → List (List ℕ) → List Group
+packed used [] = [] ∷ []
+packed used (r ∷ rs) =
+    if leb (used + length r) mostRecordWords then onto r (packed (used + length r) rs)
+    else [] ∷ onto r (packed (length r) rs)
+
+-- the records of each block, from the first on; "An empty slice gives no blocks"
+unfoldable pub groups : List (List ℕ) → List Group
+groups [] = []
+groups (r ∷ rs) = packed 0 (r ∷ rs)
+
+-- groups as blocks, one after the other
+abbrev pub blocksOf : List Group → List ℕ
+blocksOf gs = joined (map blockOf gs)
+
+-- "it ... keeps the records in their order and writes blocks again"
+unfoldable pub repacked : List (List ℕ) → List ℕ
+repacked rs = blocksOf (groups rs)
+
+-- "Success has a = bytes written"; the slice's refusals, then "50 output too short, last of all, a = bytes needed"
+unfoldable pub repack : List ℕ → List ℕ → Written
+repack slice out = written 50 out (onward (blocksIn slice) (λ blocks. passed (repacked (recordsIn blocks))))
