@@ -7,6 +7,7 @@ use Rattle.write_lines.specs.Text.{toLines}
 use Rattle.read_text.specs.Block.{toBlock}
 use Rattle.sheet.specs.Sheets.{Entry, version1, started}
 use Rattle.amending.specs.Amending.{amend, undo}
+use Rattle.repacking.specs.Packing.{repack}
 use Rattle.cedar.specs.Calls.{judgeAnswer, prefixAnswer, returned, converted, returnedBoth, amendedBoth}
 
 -- `cedar_judge`
@@ -36,3 +37,7 @@ CedarAmends e block sheet r block-after sheet-after = returnedBoth r block-after
 -- `cedar_undo`, and both buffers afterwards
 abbrev pub CedarUndoes : List ℕ → List ℕ → ℕ → List ℕ → List ℕ → Type 0
 CedarUndoes block sheet r block-after sheet-after = returnedBoth r block-after sheet-after ≡ amendedBoth (undo version1 block sheet)
+
+-- `cedar_repack`, and the output afterwards
+abbrev pub CedarRepacks : List ℕ → List ℕ → ℕ → List ℕ → Type 0
+CedarRepacks blocks out r after = returned r after ≡ converted (repack blocks out)

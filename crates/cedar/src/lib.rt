@@ -1,7 +1,7 @@
 // The calls for C, and nothing else: each returns its answer's four numbers as one.
 use sheet::Amendment;
 ghost use mathlib.Core.List.{[], _∷_};
-ghost use Rattle.cedar.specs.Promises.{CedarJudges, CedarFindsPrefix, CedarWritesLines, CedarWritesBlock, CedarStartsSheet, CedarAmends, CedarUndoes};
+ghost use Rattle.cedar.specs.Promises.{CedarJudges, CedarFindsPrefix, CedarWritesLines, CedarWritesBlock, CedarStartsSheet, CedarAmends, CedarUndoes, CedarRepacks};
 
 // uint64_t cedar_judge(const uint8_t *block, size_t length);
 #[no_mangle]
@@ -77,4 +77,13 @@ pub extern "C" fn cedar_undo(block: &mut [u8], sheet: &mut [u8]) -> u64
 {
     let amended = amending::undo(block, sheet);
     units::pack(amending::numbers(amended))
+}
+
+// uint64_t cedar_repack(const uint8_t *blocks, size_t blocks_length, uint8_t *out, size_t out_length);
+#[no_mangle]
+pub extern "C" fn cedar_repack(blocks: &[u8], out: &mut [u8]) -> u64
+    ensures { λ r. ⌜ CedarRepacks (now (blocks .entry)) (now (out .entry)) r (now (out .exit)) ⌝ }
+{
+    let repacked = repacking::repack(blocks, out);
+    units::pack(repacking::numbers(repacked))
 }

@@ -1,4 +1,5 @@
 -- What is printed, by what is found of the input, and that it fits.
+use mathlib.Core.Logic.{inl, inr}
 use mathlib.Core.Path.{_≡_, refl, sym, ap, _∙_}
 use mathlib.Core.List.{List}
 use Prim.Native.Nat.{ℕ, _+_, _≤_}
@@ -21,13 +22,16 @@ use Rattle.block.specs.Records.{recordsOf}
 use Rattle.block.proofs.Known.{accepted-by}
 use Rattle.write_lines.specs.Text.{textOf}
 use Rattle.write_lines.proofs.Sizes.{text-bound}
-use Rattle.read_text.specs.Block.{readText, toBlock}
-use Rattle.units.proofs.Told.{Known}
-use Rattle.read_text.specs.Cases.{TextRow}
-use Rattle.read_text.proofs.Known.{WordsFit, text-known, words-room}
+use Rattle.read_text.specs.Block.{readText}
+use Rattle.read_text.proofs.Known.{text-known, words-room}
 use Rattle.report.specs.Refusal.{refusalLine, orRefusal}
 use Rattle.report.proofs.Lines.{printed-most}
-use Rattle.printed.specs.Printed.{Printed, linesPrinted, blockPrinted}
+use Rattle.repacking.specs.Blocks.{blocksIn, recordsIn}
+use Rattle.repacking.specs.Packing.{repacked}
+use Rattle.repacking.specs.Cases.{RepackRow}
+use Rattle.repacking.proofs.Slices.{only-slices}
+use Rattle.repacking.proofs.Known.{slice-known, repacked-bound}
+use Rattle.printed.specs.Printed.{Printed, EndOrRefusal, linesPrinted, blockPrinted, blocksPrinted}
 
 -- what is to be printed is this text: it has room, and is printed once it is put in
 pub record Prints (out whole text : List ℕ) : Type 0 where
@@ -65,29 +69,37 @@ lines-bound b h = printed-most (λ _. textOf (recordsOf b)) 55971 (omega arith) 
 pub block-bound : (t : List ℕ) → length (blockPrinted t) ≤ 16000
 block-bound t = printed-most blockFrom 16000 (omega arith) (readText t) (λ ws e. omega (arith, length-framed ws, words-room t ws e))
 
--- lines to block, into a buffer that has room
-module _ (t out : List ℕ) (room : Room out 0 (blockPrinted t)) {r : Answer} {after : List ℕ} (e : leaves r after ≡ toBlock t out) where
-  -- the outcome, by what is read of the text
-  abbrev From : Verdict (List ℕ) → Type 0
-  From v = leaves r after ≡ written 29 out (onward v (λ ws. passed (blockFrom ws)))
+pub blocks-bound : (slice : List ℕ) → Below 256 slice → length (blocksPrinted slice) ≤ 64000
+blocks-bound slice h =
+    printed-most (λ bs. repacked (recordsIn bs)) 64000 (omega arith) (blocksIn slice)
+    (λ bs e. let s = only-slices slice bs e in omega (arith, s .size, repacked-bound slice bs h s))
 
-  all-in : (ws : List ℕ) → From (passed ws) → Room out 0 (blockFrom ws) → leaves r after ≡ leaves (answer 0 (0 + length (blockFrom ws)) 0 0) (sets out 0 (blockFrom ws))
-  all-in ws f h = f ∙ sym (all-written 29 out (blockFrom ws) (omega arith) (record { ends = refl; bytes = refl }))
+-- a call that writes what is made of what passed, into a buffer that has room, and gives its end or its refusal's line
+module _ {A : Type 0} (f : A → List ℕ) (short : ℕ) (out : List ℕ) {told : Answer} {mid after : List ℕ} {end : ℕ} (ends : EndOrRefusal told mid after end) where
+  -- all was written, and its end is told
+  all-printed : (x : A) → Room out 0 (f x) → leaves told mid ≡ written short out (passed (f x)) → Put out 0 (f x) after end
+  all-printed x room e =
+      let all = e ∙ sym (all-written short out (f x) (omega arith) (record { ends = refl; bytes = refl })) in
+      let w = ends .wrote (ap (λ o. o .answer .n) all) in
+      record { ends = w .1 ∙ ap (λ o. o .answer .a) all; bytes = w .0 ∙ ap (λ o. o .out) all }
 
-  -- with 0 the block was put in
-  pub block-put : r .n ≡ 0 → Put out 0 (blockPrinted t) after (r .a)
-  unfolding toBlock written
-  block-put none = by (readText t) (text-known t) e room
-    where
-      by : (v : Verdict (List ℕ)) → Known TextRow (WordsFit 0) v → From v → Room out 0 (orRefusal blockFrom v) → Put out 0 (orRefusal blockFrom v) after (r .a)
-      by (passed ws) k f h = let w = all-in ws f h in record { ends = ap (λ x. x .answer .a) w; bytes = ap (λ x. x .out) w }
-      by (refused s) k f h = absurd (omega (arith, ap (λ x. x .answer .n) f, k .listed))
+  pub ended : (v : Verdict A) → Room out 0 (orRefusal f v) → ((r : Answer) → v ≡ refused r → r .n ≡ 0 → ⊥)
+      → leaves told mid ≡ written short out (onward v (λ x. passed (f x))) → Printed out (orRefusal f v) after end
+  unfolding written
+  ended (passed x) room some e = prints room refl .printed (all-printed x room e)
+  ended (refused r) room some e =
+      let is : told ≡ r = ap (λ o. o .answer) e in
+      let put = ends .refusal (λ z. some r refl (ap (λ a. a .n) (sym is) ∙ z)) in
+      prints room refl .printed (record { ends = put .ends ∙ ap (λ a. 0 + length (refusalLine a)) is; bytes = put .bytes ∙ ap (λ o. sets o 0 (refusalLine told)) (ap (λ o. o .out) e) ∙ ap (λ a. sets out 0 (refusalLine a)) is })
 
-  -- with a refusal the buffer is as it was, and the line of the refusal is to be printed
-  pub block-refused : (r .n ≡ 0 → ⊥) → (after ≡ out) × (blockPrinted t ≡ refusalLine r)
-  unfolding toBlock written
-  block-refused some = by (readText t) e room
-    where
-      by : (v : Verdict (List ℕ)) → From v → Room out 0 (orRefusal blockFrom v) → (after ≡ out) × (orRefusal blockFrom v ≡ refusalLine r)
-      by (passed ws) f h = absurd (some (ap (λ x. x .answer .n) (all-in ws f h)))
-      by (refused s) f h = (ap (λ x. x .out) f, ap (λ x. refusalLine (x .answer)) (sym f))
+-- no row is 0
+pub text-row : (t : List ℕ) (r : Answer) → readText t ≡ refused r → r .n ≡ 0 → ⊥
+text-row t r e z = omega (arith, (rw e at (text-known t)) .listed)
+
+pub slice-row : (slice : List ℕ) → Below 256 slice → (r : Answer) → blocksIn slice ≡ refused r → r .n ≡ 0 → ⊥
+slice-row slice h r e z = by ((rw e at (slice-known slice h)) .listed)
+  where
+    by : RepackRow (r .n) → ⊥
+    by (inl one) = omega arith
+    by (inr (inl own)) = omega arith
+    by (inr (inr last)) = omega arith

@@ -1,9 +1,11 @@
 // What the programs print: the listing of a block, its lines, or the block of a text; or the line of a refusal.
 use block::Judged;
+use units::Answer;
 use units::Bytes;
 use units::Words;
 ghost use mathlib.Core.List.{[], _∷_};
-ghost use Prim.Native.Nat.{_<_};
+ghost use Prim.Native.Nat.{_<_, _≤_};
+ghost use lib.ListN.{length};
 ghost use Rattle.words.specs.Words.{wordsOf, mostWords};
 ghost use Rattle.words.specs.Writing.{Room, Put};
 ghost use Rattle.block.specs.Rules.{BlockRecord};
@@ -11,8 +13,9 @@ ghost use Rattle.block.specs.Judging.{Accepted};
 ghost use Rattle.block.specs.Records.{recordsOf};
 ghost use Rattle.prefix.specs.Table.{prefixOf};
 ghost use Rattle.report.specs.Text.{behind};
+ghost use Rattle.printed.specs.Printed.{EndOrRefusal};
 ghost use Rattle.printed.specs.Listing.{signedOf, lettersOf, frontOf, rowOf, rowsOf};
-ghost use Rattle.printed.specs.Promises.{PrintsListing, PrintsLines, PrintsBlock};
+ghost use Rattle.printed.specs.Promises.{PrintsListing, PrintsLines, PrintsBlock, PrintsBlocks};
 
 // Bytes that suffice for any listing.
 pub const LISTING_BYTES: usize = 32768;
@@ -22,6 +25,9 @@ pub const TEXT_BYTES: usize = 55971;
 
 // For any block.
 pub const BLOCK_BYTES: usize = 16000;
+
+// For the blocks of any slice, packed again: they are never longer than it.
+pub const SLICE_BYTES: usize = 64000;
 
 // Puts the number that a word stands for in two's complement.
 fn write_signed(w: u16, out: &mut [u8], at: Bytes) -> Bytes
@@ -110,14 +116,30 @@ pub fn print_lines(block: &[u8], out: &mut [u8; TEXT_BYTES]) -> Bytes
     }
 }
 
-// Writes the block of a text, or the line of its refusal.
-pub fn print_block(text: &[u8], out: &mut [u8; BLOCK_BYTES]) -> Bytes
-    ensures { λ r. ⌜ PrintsBlock (now (text .entry)) (now (out .entry)) (r .0) (now (out .exit)) ⌝ }
+// Where what was written ends, by the answer to the call that wrote it; of a refusal, which wrote nothing, its line.
+fn end_or_refusal(told: Answer, out: &mut [u8]) -> Bytes
+    requires { ⌜ 52 ≤ length (now out) ⌝ }
+    ensures { λ r. ⌜ EndOrRefusal told (now (out .entry)) (now (out .exit)) (r .0) ⌝ }
 {
-    let told = read_text::numbers(read_text::to_block(text, out));
     if told.n == 0 {
         let size = told.a as usize;
         return Bytes(size);
     }
     report::write_refusal(told, out, Bytes(0))
+}
+
+// Writes the block of a text, or the line of its refusal.
+pub fn print_block(text: &[u8], out: &mut [u8; BLOCK_BYTES]) -> Bytes
+    ensures { λ r. ⌜ PrintsBlock (now (text .entry)) (now (out .entry)) (r .0) (now (out .exit)) ⌝ }
+{
+    let told = read_text::numbers(read_text::to_block(text, out));
+    end_or_refusal(told, out)
+}
+
+// Writes the blocks of a slice packed again, or the line of its refusal.
+pub fn print_blocks(blocks: &[u8], out: &mut [u8; SLICE_BYTES]) -> Bytes
+    ensures { λ r. ⌜ PrintsBlocks (now (blocks .entry)) (now (out .entry)) (r .0) (now (out .exit)) ⌝ }
+{
+    let told = repacking::numbers(repacking::repack(blocks, out));
+    end_or_refusal(told, out)
 }

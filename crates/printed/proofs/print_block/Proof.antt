@@ -1,20 +1,14 @@
-use mathlib.Core.Path.{_≡_, refl, ap, _∙_}
+use mathlib.Core.Path.{_≡_, ap, _∙_}
 use native.Mathlib.Omega.{arith}
 use borrow.Author.Needs.{needs}
 use denote.Ref.{now}
 use Rattle.units.proofs.Packing.{fitted-is}
+use Rattle.words.specs.Words.{blockFrom}
 use Rattle.words.specs.Outcomes.{leaves}
-use Rattle.words.specs.Writing.{Room}
-use Rattle.report.proofs.Lines.{refusal-most}
-use Rattle.read_text.specs.Block.{toBlock}
-use Rattle.printed.specs.Printed.{blockPrinted}
-use Rattle.printed.proofs.Outcome.{prints, block-bound, block-put, block-refused}
+use Rattle.read_text.specs.Block.{readText, toBlock}
+use Rattle.printed.proofs.Outcome.{block-bound, ended, text-row}
 use Rattle.printed.proofs.print_block.Statement.{statement}
 use Rattle.printed.proofs.print_block.Tie as tie
-
--- a buffer of that size has room for every block
-room : (c : tie.After-to-block) → let a = c .before .before .before .args in Room (now (a .out)) 0 (blockPrinted (now (a .text)))
-room c = omega (arith, block-bound (now (c .before .before .before .args .text)), c .before .to-block-arg .given .0 .1)
 
 -- the four numbers and the buffer are the call's
 told : (c : tie.After-numbers) → let a = c .before .before .before .before .args in
@@ -23,22 +17,10 @@ told c = let t = c .before .to-block .ensures in
     ap (λ r. leaves r (c .before .to-block .last .1 .0)) (c .numbers .ensures .0 ∙ fitted-is _ (t .packs .a-fits) (t .packs .b-fits)) ∙ t .outcome
 
 returns : tie.Need-returns
-returns c = let n = c .before .before .before in let h = room (n .before) in
-    prints h refl .printed (block-put _ _ h (told n) (omega (arith, c .before .if1 .taken)))
-
-write-refusal-requires : tie.Need-write-refusal-requires
-write-refusal-requires c κs = omega (arith, refusal-most (c .before .before .before .numbers .result), c .write-refusal-arg .given .0 .1)
-
-returns-2 : tie.Need-returns-2
-returns-2 c = let n = c .before .before .before .before in let h = room (n .before) in
-    let stays = block-refused _ _ h (told n) (c .before .before .if1 .left) in
-    prints h (stays .1) .printed (rw (stays .0) at (c .write-refusal .ensures))
+unfolding toBlock
+returns c = let n = c .before .before in let t = now (n .before .before .before .before .args .text) in
+    ended blockFrom 29 _ (c .end-or-refusal .ensures) (readText t) (omega (arith, block-bound t, n .before .before .to-block-arg .given .0 .1)) (text-row t) (told n)
 
 pub print-block-spec : {M : Type 1} → statement M
 print-block-spec =
-    tie.close
-    (tie.spec
-    (λ c κs. search needs) (λ c κs. search needs) (λ c. search needs)
-    returns
-    write-refusal-requires
-    returns-2)
+    tie.close (tie.spec (λ c κs. search needs) (λ c κs. search needs) (λ c κs. omega (arith, c .end-or-refusal-arg .given .0 .1)) returns)
