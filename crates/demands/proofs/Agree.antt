@@ -46,10 +46,15 @@ use Rattle.amending.specs.declared.Objection.the-variants as rows
 use Rattle.block_value.specs.declared.Obstacle.the-variants as value
 use Rattle.amending.specs.Cases.{amendedOf}
 use Rattle.amending.specs.Amending.{Outcome, buffers, amend, undo}
+use Rattle.repacking.specs.declared.SliceRefusal.the-variants as slice
+use Rattle.repacking.specs.declared.Repacked.{Repacked}
+use Rattle.repacking.specs.declared.Repacked.the-variants as repacked
+use Rattle.repacking.specs.Cases.{repackedOf}
+use Rattle.repacking.specs.Packing.{repack}
 use Rattle.cedar.specs.Calls.{Returned, returned, converted, ReturnedBoth, returnedBoth, amendedBoth}
 use Rattle.printed.specs.Listing.{listingOf}
-use Rattle.printed.specs.Printed.{linesPrinted, blockPrinted}
-use Rattle.demands.specs.Agree.{FixesOne, FixesTwo, OpenNotFixed, JudgeAgrees, StepAgrees, FindAgrees, PrefixAgrees, LinesAgree, ContentAgrees, BlockAgrees, OpenAgrees, StartAgrees, AmendAgrees, UndoAgrees, CedarJudgeAgrees, CedarPrefixAgrees, CedarLinesAgree, CedarBlockAgrees, CedarStartAgrees, CedarAmendAgrees, CedarUndoAgrees, PutAgrees, PrintedListingAgrees, PrintedLinesAgree, PrintedBlockAgrees}
+use Rattle.printed.specs.Printed.{linesPrinted, blockPrinted, blocksPrinted}
+use Rattle.demands.specs.Agree.{FixesOne, FixesTwo, OpenNotFixed, JudgeAgrees, StepAgrees, FindAgrees, PrefixAgrees, LinesAgree, ContentAgrees, BlockAgrees, OpenAgrees, StartAgrees, AmendAgrees, UndoAgrees, RepackAgrees, CedarJudgeAgrees, CedarPrefixAgrees, CedarLinesAgree, CedarBlockAgrees, CedarStartAgrees, CedarAmendAgrees, CedarUndoAgrees, CedarRepackAgrees, PutAgrees, PrintedListingAgrees, PrintedLinesAgree, PrintedBlockAgrees, PrintedBlocksAgree}
 
 -- the case that a refusal's numbers tell
 refusalCase : Answer → Refusal
@@ -200,6 +205,25 @@ amended-back (amending.Refused (rows.Block r)) =
     simp (other r 0 (inl refl), far 40 (omega arith), far 41 (omega arith), far 42 (omega arith), far 43 (omega arith), far 44 (omega arith), far 45 (omega arith), far 46 (omega arith))
     (ap (λ b. amending.Refused (rows.Block b)) (refusal-back r))
 
+-- the case that the numbers of repacking tell
+repackedCase : Answer → Repacked
+repackedCase r =
+    if eqb (r .n) 0 then repacked.Blocks (record { 0 = r .a })
+    else if eqb (r .n) 50 then repacked.Short (record { 0 = r .a })
+    else if eqb (r .n) 51 then repacked.Refused (slice.Cut (r .a))
+    else if eqb (r .n) 52 then repacked.Refused slice.Long
+    else repacked.Refused (slice.Block (refusalCase r))
+
+repacked-back : (a : Repacked) → repackedCase (repackedOf a) ≡ a
+unfolding repackedCase
+repacked-back (repacked.Blocks size) = refl
+repacked-back (repacked.Short size) = refl
+repacked-back (repacked.Refused (slice.Cut number)) = refl
+repacked-back (repacked.Refused slice.Long) = refl
+repacked-back (repacked.Refused (slice.Block r)) =
+    simp (other r 0 (inl refl), other r 50 (inr (omega arith)), other r 51 (inr (omega arith)), other r 52 (inr (omega arith)))
+    (ap (λ b. repacked.Refused (slice.Block b)) (refusal-back r))
+
 -- ---- what is fixed
 
 -- 0 is not 1, also as a byte
@@ -271,6 +295,9 @@ amend-agrees e block sheet = both-agree (amend version1 e block sheet)
 pub undo-agrees : UndoAgrees
 undo-agrees block sheet = both-agree (undo version1 block sheet)
 
+pub repack-agrees : RepackAgrees
+repack-agrees blocks out r s t u p q = written-agree repackedOf repackedCase repacked-back (repack blocks out) r s t u (p .outcome) (q .outcome)
+
 -- ---- the calls for C
 
 pub cedar-judge-agrees : CedarJudgeAgrees
@@ -290,6 +317,9 @@ cedar-block-agrees text block = returned-agree (converted (toBlock text block))
 
 pub cedar-start-agrees : CedarStartAgrees
 cedar-start-agrees sheet = returned-agree (converted (started version1 sheet))
+
+pub cedar-repack-agrees : CedarRepackAgrees
+cedar-repack-agrees blocks out = returned-agree (converted (repack blocks out))
 
 returned-both-agree : (o : ReturnedBoth) → FixesTwo (λ r b x. returnedBoth r b x ≡ o)
 returned-both-agree o r s b c x y p q = let e = same p q in (ap (λ a. a .number) e, ap (λ a. a .block) e, ap (λ a. a .sheet) e)
@@ -313,3 +343,6 @@ printed-lines-agree block out r s t u p q = put-agrees out (linesPrinted block) 
 
 pub printed-block-agrees : PrintedBlockAgrees
 printed-block-agrees text out r s t u p q = put-agrees out (blockPrinted text) 0 r s t u (p .put) (q .put)
+
+pub printed-blocks-agree : PrintedBlocksAgree
+printed-blocks-agree blocks out r s t u p q = put-agrees out (blocksPrinted blocks) 0 r s t u (p .put) (q .put)

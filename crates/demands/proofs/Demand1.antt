@@ -28,7 +28,7 @@ use Rattle.cedar.specs.Calls.{returned, converted, returnedBoth, amendedBoth}
 use Rattle.read_text.specs.Cases.{TextRow}
 use Rattle.read_text.specs.Block.{readText, wordsIn, toBlock}
 use Rattle.read_text.proofs.Known.{WordsFit, text-known, answer-told}
-use Rattle.demands.specs.Demand1.{Unpacks, Judgement, JudgeAnswers, PrefixAnswers, LinesAnswers, ContentAnswers, BlockAnswers, Writes, SheetRow, OpenAnswers, StartAnswers, BothAnswer, AmendRow, AmendAnswers, UndoRow, UndoAnswers, CedarJudgeTells, CedarPrefixTells, TellsWritten, CedarLinesTell, CedarBlockTells, CedarStartTells, TellsBoth, CedarAmendTells, CedarUndoTells}
+use Rattle.demands.specs.Demand1.{Unpacks, Judgement, JudgeAnswers, PrefixAnswers, LinesAnswers, ContentAnswers, BlockAnswers, RepackAnswers, Writes, SheetRow, OpenAnswers, StartAnswers, BothAnswer, AmendRow, AmendAnswers, UndoRow, UndoAnswers, CedarJudgeTells, CedarPrefixTells, TellsWritten, CedarLinesTell, CedarBlockTells, CedarStartTells, CedarRepackTells, TellsBoth, CedarAmendTells, CedarUndoTells}
 use Rattle.units.specs.declared.Answer.{Answer}
 use Rattle.units.proofs.Choosing.{by-test, both-ways}
 use Rattle.words.proofs.Laws.{getD-below}
@@ -40,6 +40,9 @@ use Rattle.sheet.proofs.Sheets.{sheet-opened}
 use Rattle.block_value.specs.Places.{recordNumber, wordNumber, oldValue, recordIn, noRecord, noValue, found, stands}
 use Rattle.amending.specs.Amending.{Outcome, Both, both, amendable, undoable, lastOf, leaving, onBoth, amend, undo}
 use Rattle.units.proofs.Told.{Known}
+use Rattle.repacking.specs.Blocks.{blocksIn, recordsIn}
+use Rattle.repacking.specs.Packing.{repacked, repack}
+use Rattle.repacking.proofs.Known.{repack-told}
 
 -- ---- the calls on a block, on a text, and the prefix call
 
@@ -103,6 +106,12 @@ unfolding toLines
 lines-answers block text bytes =
     let t = outcome-told block text bytes in
     ((t .0, taken-apart (toLines block text .answer) (t .1)), kept 29 text (onward (judged block) (λ _. passed (textOf (recordsOf block)))))
+
+pub repack-answers : RepackAnswers
+unfolding repack
+repack-answers slice out bytes =
+    let t = repack-told slice out bytes in
+    ((t .0, taken-apart (repack slice out .answer) (t .1)), kept 50 out (onward (blocksIn slice) (λ blocks. passed (repacked (recordsIn blocks)))))
 
 pub content-answers : ContentAnswers
 unfolding wordsIn
@@ -234,6 +243,9 @@ cedar-lines-tell block text after r bytes = tells-written (toLines block text) r
 
 pub cedar-block-tells : CedarBlockTells
 cedar-block-tells text block after r = tells-written (toBlock text block) r after (block-answers text block .0 .1)
+
+pub cedar-repack-tells : CedarRepackTells
+cedar-repack-tells blocks out after r bytes = tells-written (repack blocks out) r after (repack-answers blocks out bytes .0 .1)
 
 pub cedar-start-tells : CedarStartTells
 cedar-start-tells sheet after r = tells-written (started version1 sheet) r after (start-answers sheet .0 .1)

@@ -1,7 +1,7 @@
 -- Demand 2 holds.
 use mathlib.Core.Path.{_≡_, sym, ap, _∙_, refl}
 use mathlib.Core.List.{List, _++_}
-use Prim.Native.Nat.{ℕ, _≤_, _+_}
+use Prim.Native.Nat.{ℕ, _≤_}
 use borrow.Author.Tests.{le-ltb}
 use lib.ListN.{length, drop}
 use lib.Seq.{take-append-seam}
@@ -37,19 +37,19 @@ lines-read = text-back
 
 -- ---- what the calls write
 
-bytes-in : (bytes out : List ℕ) → bytesIn (wrote bytes out) ≡ bytes
+pub bytes-in : (bytes out : List ℕ) → bytesIn (wrote bytes out) ≡ bytes
 bytes-in bytes out = take-append-seam bytes (drop (length bytes) out)
 
-with-room : (bytes out : List ℕ) → length bytes ≤ length out → written 29 out (passed bytes) ≡ wrote bytes out
+pub with-room : (short : ℕ) (bytes out : List ℕ) → length bytes ≤ length out → written short out (passed bytes) ≡ wrote bytes out
 unfolding written
-with-room bytes out h = simp (le-ltb (length out) (length bytes) h)
+with-room short bytes out h = simp (le-ltb (length out) (length bytes) h)
 
 lines-written : (b text : List ℕ) (k : ℕ) → judged b ≡ passed k → length (textOf (recordsOf b)) ≤ length text → toLines b text ≡ wrote (textOf (recordsOf b)) text
-lines-written b text k e h = when-accepted b text k e ∙ with-room (textOf (recordsOf b)) text h
+lines-written b text k e h = when-accepted b text k e ∙ with-room 29 (textOf (recordsOf b)) text h
 
 block-written : (t out ws : List ℕ) → readText t ≡ passed ws → length (blockFrom ws) ≤ length out → toBlock t out ≡ wrote (blockFrom ws) out
 unfolding toBlock
-block-written t out ws e h = rw e (with-room (blockFrom ws) out h)
+block-written t out ws e h = rw e (with-room 29 (blockFrom ws) out h)
 
 -- ---- the round trips
 

@@ -2,6 +2,7 @@ pub mod Demand1
 pub mod Demand2
 pub mod Sheets
 pub mod Demand3
+pub mod WholeFiles
 pub mod Records
 pub mod Lines
 pub mod ExclusiveOr

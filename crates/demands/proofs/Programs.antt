@@ -7,8 +7,8 @@ use lib.ListN.{length, take}
 use lib.Seq.{length-sets}
 use Rattle.words.proofs.Sealing.{slice-sets}
 use Rattle.printed.specs.Listing.{listingOf}
-use Rattle.printed.specs.Printed.{Printed, linesPrinted, blockPrinted}
-use Rattle.demands.specs.Programs.{ListingWritten, LinesWritten, BlockWritten}
+use Rattle.printed.specs.Printed.{Printed, linesPrinted, blockPrinted, blocksPrinted}
+use Rattle.demands.specs.Programs.{ListingWritten, LinesWritten, BlockWritten, BlocksWritten}
 
 printed-written : (out text after : List ℕ) (end : ℕ) → Printed out text after end → take end after ≡ text
 printed-written out text after end p =
@@ -22,3 +22,6 @@ lines-written block out = printed-written out (linesPrinted block)
 
 pub block-written : BlockWritten
 block-written text out = printed-written out (blockPrinted text)
+
+pub blocks-written : BlocksWritten
+blocks-written blocks out = printed-written out (blocksPrinted blocks)

@@ -12,8 +12,9 @@ use Rattle.read_text.specs.Promises.{JudgesLines, WritesBlock}
 use Rattle.sheet.specs.Sheets.{Entry}
 use Rattle.sheet.specs.Promises.{OpensSheet, StartsSheet}
 use Rattle.amending.specs.Promises.{Amends, Undoes}
-use Rattle.cedar.specs.Promises.{CedarJudges, CedarFindsPrefix, CedarWritesLines, CedarWritesBlock, CedarStartsSheet, CedarAmends, CedarUndoes}
-use Rattle.printed.specs.Promises.{PrintsListing, PrintsLines, PrintsBlock}
+use Rattle.repacking.specs.Promises.{Repacks}
+use Rattle.cedar.specs.Promises.{CedarJudges, CedarFindsPrefix, CedarWritesLines, CedarWritesBlock, CedarStartsSheet, CedarAmends, CedarUndoes, CedarRepacks}
+use Rattle.printed.specs.Promises.{PrintsListing, PrintsLines, PrintsBlock, PrintsBlocks}
 
 -- a promise on an answer fixes it
 abbrev pub Fixes : {R : Type 0} → (R → Type 0) → Type 0
@@ -83,6 +84,10 @@ AmendAgrees = (e : Entry) (block sheet : List ℕ) → FixesTwo (Amends e block 
 abbrev pub UndoAgrees : Type 0
 UndoAgrees = (block sheet : List ℕ) → FixesTwo (Undoes block sheet)
 
+-- `repacking::repack`
+abbrev pub RepackAgrees : Type 0
+RepackAgrees = (blocks out : List ℕ) → FixesOne (Repacks blocks out)
+
 -- ---- the calls for C
 
 -- `cedar_judge`
@@ -113,6 +118,10 @@ CedarAmendAgrees = (e : Entry) (block sheet : List ℕ) → FixesTwo (CedarAmend
 abbrev pub CedarUndoAgrees : Type 0
 CedarUndoAgrees = (block sheet : List ℕ) → FixesTwo (CedarUndoes block sheet)
 
+-- `cedar_repack`
+abbrev pub CedarRepackAgrees : Type 0
+CedarRepackAgrees = (blocks out : List ℕ) → FixesOne (CedarRepacks blocks out)
+
 -- ---- what the programs print
 
 -- `printed::print_listing`
@@ -126,6 +135,10 @@ PrintedLinesAgree = (block out : List ℕ) → FixesOne (PrintsLines block out)
 -- `printed::print_block`
 abbrev pub PrintedBlockAgrees : Type 0
 PrintedBlockAgrees = (text out : List ℕ) → FixesOne (PrintsBlock text out)
+
+-- `printed::print_blocks`
+abbrev pub PrintedBlocksAgree : Type 0
+PrintedBlocksAgree = (blocks out : List ℕ) → FixesOne (PrintsBlocks blocks out)
 
 -- a writer that the crates share promises which text it puts at which place
 abbrev pub PutAgrees : Type 0

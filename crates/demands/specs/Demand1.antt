@@ -18,8 +18,10 @@ use Rattle.read_text.specs.Cases.{TextRow, ToBlockRow}
 use Rattle.read_text.specs.Block.{wordsIn, toBlock}
 use Rattle.sheet.specs.Sheets.{Entry, version1, opened, started}
 use Rattle.amending.specs.Amending.{Outcome, amend, undo}
+use Rattle.repacking.specs.Cases.{RepackRow}
+use Rattle.repacking.specs.Packing.{repack}
 use Rattle.prefix.specs.Table.{prefixOf, answerOf}
-use Rattle.cedar.specs.Promises.{CedarJudges, CedarFindsPrefix, CedarWritesLines, CedarWritesBlock, CedarStartsSheet, CedarAmends, CedarUndoes}
+use Rattle.cedar.specs.Promises.{CedarJudges, CedarFindsPrefix, CedarWritesLines, CedarWritesBlock, CedarStartsSheet, CedarAmends, CedarUndoes, CedarRepacks}
 
 -- ---- the numbers of an answer
 
@@ -57,6 +59,10 @@ ContentAnswers = (text : List ℕ) → Judgement TextRow (wordsIn text)
 -- "then 29"
 abbrev pub BlockAnswers : Type 0
 BlockAnswers = (text block : List ℕ) → Writes ToBlockRow block (toBlock text block)
+
+-- document 02, request 1: "52 ... first of all; then block by block 51 ... before the block's own refusals"; "50 ... last of all"
+abbrev pub RepackAnswers : Type 0
+RepackAnswers = (slice out : List ℕ) → Below 256 slice → Writes RepackRow out (repack slice out)
 
 -- "sheet not 520 bytes (all that starting tests), or its mark, version, count, zero byte or an entry past the count is wrong"
 abbrev pub SheetRow : ℕ → Type 0
@@ -122,6 +128,10 @@ CedarBlockTells = (text block after : List ℕ) (r : ℕ) → CedarWritesBlock t
 -- `cedar_sheet_start`
 abbrev pub CedarStartTells : Type 0
 CedarStartTells = (sheet after : List ℕ) (r : ℕ) → CedarStartsSheet sheet r after → TellsWritten (started version1 sheet) r after
+
+-- `cedar_repack`
+abbrev pub CedarRepackTells : Type 0
+CedarRepackTells = (blocks out after : List ℕ) (r : ℕ) → Below 256 blocks → CedarRepacks blocks out r after → TellsWritten (repack blocks out) r after
 
 -- the four numbers, and every byte of block and sheet
 abbrev pub TellsBoth : Outcome → ℕ → List ℕ → List ℕ → Type 0

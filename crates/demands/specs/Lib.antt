@@ -8,4 +8,5 @@ pub mod Examples
 pub mod Agree
 pub mod Sheets
 pub mod Demand3
+pub mod WholeFiles
 pub mod Programs

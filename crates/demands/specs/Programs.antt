@@ -4,8 +4,8 @@ use mathlib.Core.List.{List}
 use Prim.Native.Nat.{ℕ}
 use lib.ListN.{take}
 use Rattle.printed.specs.Listing.{listingOf}
-use Rattle.printed.specs.Printed.{linesPrinted, blockPrinted}
-use Rattle.printed.specs.Promises.{PrintsListing, PrintsLines, PrintsBlock}
+use Rattle.printed.specs.Printed.{linesPrinted, blockPrinted, blocksPrinted}
+use Rattle.printed.specs.Promises.{PrintsListing, PrintsLines, PrintsBlock, PrintsBlocks}
 
 -- `listing`: "It prints for each record ... For a refusal it prints only one line"
 abbrev pub ListingWritten : Type 0
@@ -18,3 +18,7 @@ LinesWritten = (block out after : List ℕ) (end : ℕ) → PrintsLines block ou
 -- `lines_to_block`
 abbrev pub BlockWritten : Type 0
 BlockWritten = (text out after : List ℕ) (end : ℕ) → PrintsBlock text out end after → take end after ≡ blockPrinted text
+
+-- `repack`
+abbrev pub BlocksWritten : Type 0
+BlocksWritten = (blocks out after : List ℕ) (end : ℕ) → PrintsBlocks blocks out end after → take end after ≡ blocksPrinted blocks

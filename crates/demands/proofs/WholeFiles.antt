@@ -1,0 +1,185 @@
+-- Repacking keeps the records, and makes the fewest blocks.
+use mathlib.Core.Logic.{_⊎_, inl, inr}
+use mathlib.Core.Path.{_≡_, refl, sym, ap, _∙_}
+use mathlib.Core.List.{List, [], _∷_, _++_, map, map-append, flatten}
+use Prim.Native.Nat.{ℕ, _+_, _≤_, _<_}
+use native.Mathlib.Omega.{arith}
+use borrow.Author.Tests.{lt-ltb, le-ltb}
+use lib.ListN.{length, length-map}
+use Rattle.units.specs.Answers.{answer, Verdict, passed, refused, onward}
+use Rattle.words.specs.Words.{joined, All, Below, mostRecordWords}
+use Rattle.words.specs.Outcomes.{Written, written, leaves}
+use Rattle.words.proofs.Writing.{written-either}
+use Rattle.block.specs.Records.{recordsOf}
+use Rattle.block.specs.Rules.{blockOf, BlockRecord}
+use Rattle.repacking.specs.Blocks.{mostBytes, blocksIn, recordsIn}
+use Rattle.repacking.specs.Cases.{RepackRow}
+use Rattle.repacking.specs.Rules.{IsSlice}
+use Rattle.repacking.specs.Packing.{groups, repacked, repack}
+use Rattle.repacking.proofs.Slices.{blocks-stop, blocks-past, only-slices, every-slice}
+use Rattle.repacking.proofs.Groups.{groups-join, new-late}
+use Rattle.repacking.proofs.Fewest.{fewest}
+use Rattle.repacking.proofs.Made.{Whole, each-good, records-good, new-groups, groups-whole, made-accepted, made-groups}
+use Rattle.repacking.proofs.Known.{KnownSlice, slice-known, repacked-bound}
+use Rattle.demands.specs.Demand2.{bytesIn, wrote}
+use Rattle.demands.specs.WholeFiles.{SlicesExactly, LongFirst, BlockByBlock, BytesNeeded, EmptySlice, Repacking, BlocksAgain, SameRecords, FewestBlocks, FitsElseNew, RepackedTwice, NeverLonger}
+use Rattle.demands.proofs.Demand2.{bytes-in, with-room}
+
+pub slices-exactly : SlicesExactly
+slices-exactly slice blocks = (only-slices slice blocks, every-slice slice blocks)
+
+-- ---- the outcome, of a slice of blocks
+
+when-slice : (slice out : List ℕ) (bs : List (List ℕ)) → IsSlice slice bs → repack slice out ≡ written 50 out (passed (repacked (recordsIn bs)))
+unfolding repack
+when-slice slice out bs h = rw (every-slice slice bs h)
+
+without-room : (bytes out : List ℕ) → length out < length bytes → written 50 out (passed bytes) ≡ leaves (answer 50 (length bytes) 0 0) out
+unfolding written
+without-room bytes out h = simp (lt-ltb (length out) (length bytes) h)
+
+-- success: all of its bytes were written
+when-written : (out bytes : List ℕ) {w : Written} → w ≡ written 50 out (passed bytes) → w .answer .n ≡ 0 → w ≡ wrote bytes out
+when-written out bytes {w} e z = by (written-either 50 out bytes)
+  where
+    by : (written 50 out (passed bytes) ≡ leaves (answer 50 (length bytes) 0 0) out) ⊎ (written 50 out (passed bytes) ≡ wrote bytes out) → w ≡ wrote bytes out
+    by (inl f) = absurd (omega (arith, ap (λ x. x .answer .n) (e ∙ f)))
+    by (inr f) = e ∙ f
+
+-- no refusal has n = 0
+row-not-0 : {n : ℕ} → RepackRow n → n ≡ 0 → ⊥
+row-not-0 (inl e) z = omega arith
+row-not-0 (inr (inl h)) z = omega (arith, h .0)
+row-not-0 (inr (inr h)) z = omega (arith, h .0)
+
+-- so a success is of a slice of blocks
+its-blocks : (slice out : List ℕ) → Below 256 slice → repack slice out .answer .n ≡ 0 → (bs : List (List ℕ)) × IsSlice slice bs
+unfolding repack written
+its-blocks slice out bytes z = by (blocksIn slice) refl (slice-known slice bytes) z
+  where
+    by : (v : Verdict (List (List ℕ))) → blocksIn slice ≡ v → KnownSlice v → written 50 out (onward v (λ blocks. passed (repacked (recordsIn blocks)))) .answer .n ≡ 0 → (bs : List (List ℕ)) × IsSlice slice bs
+    by (refused r) e t z = absurd (row-not-0 (t .listed) z)
+    by (passed bs) e t z = (bs, only-slices slice bs e)
+
+-- ---- the blocks made
+
+-- the records of these blocks, in blocks again
+again : List (List ℕ) → List (List ℕ)
+again bs = map blockOf (groups (recordsIn bs))
+
+module _ (slice : List ℕ) (bs : List (List ℕ)) (bytes : Below 256 slice) (given : IsSlice slice bs) where
+  records-are : All BlockRecord (recordsIn bs)
+  records-are = records-good bs (each-good bs (rw (given .parts) at bytes) (given .each))
+
+  groups-are : All Whole (groups (recordsIn bs))
+  groups-are = groups-whole (recordsIn bs) records-are
+
+  made-slice : IsSlice (repacked (recordsIn bs)) (again bs)
+  unfolding repacked again
+  made-slice =
+      record { size = omega (arith, given .size, repacked-bound slice bs bytes given); parts = refl; each = made-accepted (groups (recordsIn bs)) groups-are }
+
+  again-groups : map recordsOf (again bs) ≡ groups (recordsIn bs)
+  unfolding again
+  again-groups = made-groups (groups (recordsIn bs)) groups-are
+
+  again-records : recordsIn (again bs) ≡ recordsIn bs
+  again-records = ap flatten again-groups ∙ groups-join (recordsIn bs)
+
+  -- repacked they are the same bytes
+  again-same : (out : List ℕ) → length (repacked (recordsIn bs)) ≤ length out → repack (repacked (recordsIn bs)) out ≡ wrote (repacked (recordsIn bs)) out
+  again-same out room =
+      when-slice (repacked (recordsIn bs)) out (again bs) made-slice
+      ∙ ap (λ rs. written 50 out (passed (repacked rs))) again-records
+      ∙ with-room 50 (repacked (recordsIn bs)) out room
+
+  -- a success has written them, and no others
+  module _ (out : List ℕ) (success : repack slice out .answer .n ≡ 0) where
+    all-written : repack slice out ≡ wrote (repacked (recordsIn bs)) out
+    all-written = when-written out (repacked (recordsIn bs)) (when-slice slice out bs given) success
+
+    bytes-are : bytesIn (repack slice out) ≡ repacked (recordsIn bs)
+    bytes-are = ap bytesIn all-written ∙ bytes-in (repacked (recordsIn bs)) out
+
+    result-is : (result : List (List ℕ)) → IsSlice (bytesIn (repack slice out)) result → result ≡ again bs
+    result-is result made = cc (bytes-are, every-slice (bytesIn (repack slice out)) result made, every-slice (repacked (recordsIn bs)) (again bs) made-slice)
+
+-- ---- what is taken
+
+pub long-first : LongFirst
+unfolding repack blocksIn written
+long-first slice out h = simp (lt-ltb mostBytes (length slice) h)
+
+pub block-by-block : BlockByBlock
+unfolding repack blocksIn written
+block-by-block blocks rest out r each some short e =
+    simp (le-ltb mostBytes (length (joined blocks ++ rest)) short, blocks-past 1 r blocks rest each (blocks-stop (1 + length blocks) r rest some e))
+
+pub bytes-needed : BytesNeeded
+bytes-needed slice out other bytes success =
+    let b = its-blocks slice out bytes success in
+    let needed = repacked (recordsIn (b .0)) in
+    let w = all-written slice (b .0) bytes (b .1) out success in
+    let it = when-slice slice other (b .0) (b .1) in
+    rw w ((λ h. it ∙ without-room needed other h), (λ h. ap (λ x. x .answer) (it ∙ with-room 50 needed other h)))
+
+pub empty-slice : EmptySlice
+unfolding repacked groups joined flatten
+empty-slice out = when-slice [] out [] (record { size = omega arith; parts = refl; each = tt }) ∙ with-room 50 [] out (omega arith)
+
+-- ---- what is made
+
+pub blocks-again : BlocksAgain
+blocks-again slice out bytes success =
+    let b = its-blocks slice out bytes success in
+    let is = bytes-are slice (b .0) bytes (b .1) out success in (
+      ap length is ∙ sym (ap (λ w. w .answer .a) (all-written slice (b .0) bytes (b .1) out success)),
+      (b .0, again (b .0), record { bytes = bytes; success = success; given = b .1; made = rw is (made-slice slice (b .0) bytes (b .1)) }),
+    )
+
+-- the result of a repacking
+module _ {slice out : List ℕ} {blocks result : List (List ℕ)} (p : Repacking slice out blocks result) where
+  result-again : result ≡ again blocks
+  result-again = result-is slice blocks (p .bytes) (p .given) out (p .success) result (p .made)
+
+  result-groups : map recordsOf result ≡ groups (recordsIn blocks)
+  result-groups = ap (map recordsOf) result-again ∙ again-groups slice blocks (p .bytes) (p .given)
+
+pub same-records : SameRecords
+same-records slice out blocks result p =
+    let e = ap flatten (result-groups p) ∙ groups-join (recordsIn blocks) in
+    (e, ap (λ rs. length (joined rs)) e)
+
+pub fewest-blocks : FewestBlocks
+fewest-blocks slice out blocks result p gs e h =
+    let l = ap length (result-groups p) in
+    omega (arith, length-map result recordsOf, fewest (recordsIn blocks) gs e h)
+
+pub fits-else-new : FitsElseNew
+fits-else-new slice out blocks result p front back rs b c r e first =
+    let new = new-groups (recordsIn blocks) (records-are slice blocks (p .bytes) (p .given)) in
+    let parts : groups (recordsIn blocks) ≡ map recordsOf front ++ (recordsOf b ∷ (r ∷ rs) ∷ map recordsOf back) =
+    sym (result-groups p) ∙ ap (map recordsOf) e ∙ map-append recordsOf front (b ∷ c ∷ back) ∙ ap (λ g. map recordsOf front ++ (recordsOf b ∷ g ∷ map recordsOf back)) first in
+    new-late mostRecordWords (map recordsOf front) (map recordsOf back) (recordsOf b) r rs (rw parts at new)
+
+pub repacked-twice : RepackedTwice
+repacked-twice slice out other bytes success room =
+    let b = its-blocks slice out bytes success in
+    let is = bytes-are slice (b .0) bytes (b .1) out success in
+    rw is (again-same slice (b .0) bytes (b .1) other (rw is at room))
+
+pub never-longer : NeverLonger
+never-longer slice out blocks bytes h = (by (written-either 50 out needed), λ room. ap (λ w. w .answer .n) (it ∙ with-room 50 needed out (omega (arith, bound))))
+  where
+    needed : List ℕ
+    needed = repacked (recordsIn blocks)
+
+    bound : length needed ≤ length slice
+    bound = repacked-bound slice blocks bytes h
+
+    it : repack slice out ≡ written 50 out (passed needed)
+    it = when-slice slice out blocks h
+
+    by : {all : List ℕ} → (written 50 out (passed needed) ≡ leaves (answer 50 (length needed) 0 0) out) ⊎ (written 50 out (passed needed) ≡ leaves (answer 0 (length needed) 0 0) all) → repack slice out .answer .a ≤ length slice
+    by (inl e) = omega (arith, bound, ap (λ w. w .answer .a) (it ∙ e))
+    by (inr e) = omega (arith, bound, ap (λ w. w .answer .a) (it ∙ e))
