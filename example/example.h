@@ -7,8 +7,8 @@
 
 #include "cedar.h"
 
-/* One byte more than the largest block or text has, so that a longer file is refused as well. */
-enum { BLOCK_ROOM = CEDAR_BLOCK_MOST + 1, TEXT_ROOM = CEDAR_READ_MOST + 1 };
+/* One byte more than the largest block, text or slice of blocks has, so that a longer file is refused as well. */
+enum { BLOCK_ROOM = CEDAR_BLOCK_MOST + 1, TEXT_ROOM = CEDAR_READ_MOST + 1, SLICE_ROOM = CEDAR_SLICE_BYTES + 1 };
 
 /* The number of bytes read, at most `room`, or -1, with the reason in errno, if the file cannot be read. */
 static inline long read_file(const char *name, uint8_t *bytes, size_t room)
@@ -57,7 +57,7 @@ static inline int finish_conversion(uint64_t answer, const uint8_t *output)
         return 1;
     }
     /* The bytes may get no further than a buffer until they are flushed. */
-    return fwrite(output, cedar_a(answer), 1, stdout) == 1 && fflush(stdout) == 0 ? 0 : 2;
+    return fwrite(output, 1, cedar_a(answer), stdout) == cedar_a(answer) && fflush(stdout) == 0 ? 0 : 2;
 }
 
 #endif

@@ -53,7 +53,9 @@ on_terminal() {
 
 if on_terminal test -t 1 2>/dev/null; then
     check "cedar list to a terminal" ends 0 '' on_terminal ./cedar list example/k.block
-    check "cedar block to a terminal" ends 2 'cedar: a block is binary; send it to a file' on_terminal ./cedar block example/k.lines
+    for word in block repack; do
+        check "cedar $word to a terminal" ends 2 'cedar: a block is binary; send it to a file' on_terminal ./cedar "$word" example/k.lines
+    done
 fi
 
 # A block of 438 bytes that has 1,504 bytes of lines: 200 rows of one value.

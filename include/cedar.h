@@ -2,7 +2,7 @@
  * cedar.h: the C calls of Nalungkep, a proved converter for CEDAR radar data.
  *
  * The library judges binary blocks of the CEDAR database format, writes their lines, reads lines back to a block,
- * amends a block's values and undoes that, and finds instruments' prefixes.
+ * repacks blocks, amends a block's values and undoes that, and finds instruments' prefixes.
  * The calls are proved, for every input, against definitions; this page says in words what those say.
  * Link x86-64 programs with libcedar.a; of the C library it needs memset alone.
  *
@@ -164,6 +164,33 @@ enum { CEDAR_READ_MOST = 65536, CEDAR_BLOCK_MOST = 16000 };
  * Bytes of the block past those written stay as they are.
  */
 uint64_t cedar_to_block(const uint8_t *text, size_t text_length, uint8_t *block, size_t block_length);
+
+/* Bytes of blocks that are repacked together, at most. */
+#define CEDAR_SLICE_BYTES 64000
+
+/*
+ * Writes the records of the blocks in the `blocks_length` bytes at `blocks`, which stand one after the other, to `out`,
+ * in their order, in as few blocks as possible: a record goes into the current block if it fits, else into a new one.
+ * The output has room for `out_length` bytes.
+ *
+ *   n       given when                                     a               b               c
+ *   0       the blocks are written                         bytes written
+ *   1 to 9  cedar_judge refuses a block                    as there        as there        as there
+ *   50      the output is shorter than needed              bytes needed
+ *   51      the block runs past the end, or only one byte  block, from 1
+ *           is left
+ *   52      the blocks are over 64,000 bytes together
+ *
+ * Tried in this order: 52, then block by block, and at the end 50; the first that holds is the answer.
+ * A block: 51 where only one byte is left; 1 where its word 1, which says how long it is, is under 18 or over 8,000;
+ *   51 where it runs past the end; then 3 to 9. So 2 is never given.
+ * 1 to 9 do not tell the block; it is the first that cedar_judge refuses, each cut by its word 1.
+ * No block at all is accepted, and gives no byte.
+ * The output needs at most blocks_length bytes. With out_length 0, and any out but NULL, the call asks how many.
+ * A sheet stays with the block that it was kept for: each block written starts with an empty one.
+ * Bytes of the output past those written stay as they are.
+ */
+uint64_t cedar_repack(const uint8_t *blocks, size_t blocks_length, uint8_t *out, size_t out_length);
 
 /* Bytes of a sheet, and the amendments that it has room for. */
 enum { CEDAR_SHEET_BYTES = 520, CEDAR_AMENDMENTS_MOST = 64 };
