@@ -166,7 +166,7 @@ enum { CEDAR_READ_MOST = 65536, CEDAR_BLOCK_MOST = 16000 };
 uint64_t cedar_to_block(const uint8_t *text, size_t text_length, uint8_t *block, size_t block_length);
 
 /* Bytes of blocks that are repacked together, at most. */
-#define CEDAR_SLICE_BYTES 64000
+enum { CEDAR_SLICE_BYTES = 64000 };
 
 /*
  * Writes the records of the blocks in the `blocks_length` bytes at `blocks`, which stand one after the other, to `out`,
