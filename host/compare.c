@@ -14,14 +14,12 @@
 
 #include "cedar.h"
 #include "compare_sheet.h"
+#include "conversions.h"
 #include "generate.h"
 #include "generate_text.h"
 #include "paper.h"
 #include "reference.h"
 #include "trial.h"
-
-/* Bytes of the largest buffer that is lent; TEXT_ROOM is less. */
-enum { ROOM = BLOCK_ROOM };
 
 /* Answers of a text: 0, and 20 to 30. */
 #define TEXT_ANSWERS UINT64_C(0x7ff00001)
@@ -46,7 +44,7 @@ static uint64_t make_to_block(const struct trial *trial)
 }
 
 static struct call judge = {"judge", make_judge, 1, 0, BLOCK_ANSWERS, {0}};
-static struct call to_lines = {"to lines", make_to_lines, 2, 0, BLOCK_ANSWERS | UINT64_C(1) << 29, {0}};
+static struct call to_lines = {"to lines", make_to_lines, 2, 0, BLOCK_ANSWERS | ANSWER(29), {0}};
 static struct call to_block = {"to block", make_to_block, 2, 0, TEXT_ANSWERS, {0}};
 
 /* Buffers that the call must leave as they are. */
@@ -67,31 +65,6 @@ static struct lent lend_text(const struct text *text)
 static void compare_judge(struct trials *trials, const struct block *block)
 {
     struct trial trial = {&judge, reference_judge(block->bytes, block->length), {lend_block(block)}, {0}};
-
-    try_call(trials, &trial);
-}
-
-/* Bytes by chance, drawn once; each output finds those from another start on. */
-enum { STARTS = 4096 };
-
-static uint8_t noise[STARTS + ROOM];
-
-static void draw_noise(void)
-{
-    struct chance chance = {0};
-
-    for (size_t i = 0; i < sizeof noise; i++)
-        noise[i] = (uint8_t)draw(&chance);
-}
-
-/* Converts the input to an output of so many bytes. */
-static void compare_output(struct trials *trials, struct chance *chance, struct call *call, conversion *reference,
-                           struct lent input, size_t length)
-{
-    static uint8_t after[ROOM];
-    const uint8_t *before = noise + between(chance, 0, STARTS);
-    struct lent output = {"output", length, before, memcpy(after, before, length), NULL, LENGTH_ONLY};
-    struct trial trial = {call, reference(input.before, input.length, after, length), {input, output}, {0}};
 
     try_call(trials, &trial);
 }
@@ -231,7 +204,7 @@ int main(int argc, char **argv)
     draw_noise();
     trials.shown = only != NULL;
     for (size_t i = 0; i < LENT_MOST; i++)
-        trials.guards[i] = guard_open(ROOM);
+        trials.guards[i] = guard_open(LENT_ROOM);
     if (only != NULL)
         compare_case(&trials, strtoull(only, NULL, 10));
     else

@@ -10,7 +10,6 @@
 #include "story.h"
 
 /* Answers of a sheet call beside those that a block alone decides. */
-#define ANSWER(n) (UINT64_C(1) << (n))
 #define AMEND_ANSWERS (ANSWER(40) | ANSWER(41) | ANSWER(42) | ANSWER(43) | ANSWER(44))
 #define UNDO_ANSWERS (ANSWER(40) | ANSWER(45) | ANSWER(46))
 

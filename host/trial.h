@@ -12,7 +12,8 @@
 /* More than the largest n of an answer. */
 enum { ANSWERS = 47 };
 
-/* Answers that a block alone decides, 0 to 9, as bits. */
+/* An answer as a bit, and those that a block alone decides, 0 to 9. */
+#define ANSWER(n) (UINT64_C(1) << (n))
 #define BLOCK_ANSWERS UINT64_C(0x3ff)
 
 /* The most buffers that a call is lent, and the most numbers that it is given beside them. */
