@@ -1,8 +1,8 @@
 /*
- * Compares the library's calls with the reference's, on the examples of document 01, and by chance on blocks and texts
- * and on amendments.
+ * Compares the library's calls with the reference's, on the examples of document 01, and by chance on blocks and texts,
+ * on amendments and on slices of blocks.
  *
- *   compare [-s SEED] [-n CASES]   all comparisons, with so many blocks, texts and amended blocks
+ *   compare [-s SEED] [-n CASES]   all comparisons, with so many blocks and texts
  *   compare [-s SEED] -c CASE      those of this case only
  */
 #define _POSIX_C_SOURCE 200809L
@@ -13,6 +13,7 @@
 #include <unistd.h>
 
 #include "cedar.h"
+#include "compare_repack.h"
 #include "compare_sheet.h"
 #include "conversions.h"
 #include "generate.h"
@@ -163,12 +164,14 @@ static void compare_case(struct trials *trials, uint64_t number)
     compare_block(trials, &chance);
     compare_text(trials, &chance);
     compare_sheet(trials, &chance);
+    compare_repack(trials, &chance);
 }
 
 static void compare_all(struct trials *trials, uint64_t cases)
 {
     printf("seed %" PRIu64 ", %" PRIu64 " cases\n", trials->seed, cases);
     check_paper(&trials->tally);
+    check_repack(&trials->tally);
     for (uint32_t instrument = 0; instrument <= UINT16_MAX; instrument++)
         compare_prefix(&trials->tally, (uint16_t)instrument);
     for (uint64_t number = 0; number < cases; number++)
@@ -177,6 +180,7 @@ static void compare_all(struct trials *trials, uint64_t cases)
     print_reached(trials, &to_lines);
     print_reached(trials, &to_block);
     print_sheet_reached(trials);
+    print_repack_reached(trials);
     printf("%lu passed, %lu failed\n", trials->tally.passed, trials->tally.failed);
 }
 

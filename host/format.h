@@ -1,4 +1,4 @@
-/* The numbers of the binary block, of its lines and of its amendment sheet in document 01. */
+/* The numbers of the binary block, of its lines and of its amendment sheet in document 01, and of document 02. */
 #ifndef FORMAT_H
 #define FORMAT_H
 
@@ -34,6 +34,9 @@ enum { BEFORE_VERSION = 3, BEFORE_COUNT = 5, BEFORE_ZERO = 7, BEFORE_ENTRIES = 8
 /* The mark and the version of a sheet, and the most amendments that stand. */
 #define SHEET_MARK "AMD"
 enum { SHEET_VERSION = 1, STANDING_MOST = 64 };
+
+/* Bytes of the longest slice of blocks. */
+enum { SLICE_BYTES = 64000 };
 
 static inline size_t lines_of_fields(size_t fields)
 {

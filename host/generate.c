@@ -106,8 +106,7 @@ static void build_any(struct chance *chance, struct block *block)
     generate_words(chance, block, one_in(chance, 10) ? BLOCK_MOST : between(chance, BLOCK_LEAST, most));
 }
 
-/* A Catalogue or Header as large as chance wants it, up to 198 cards. */
-static void build_cards(struct chance *chance, struct block *block)
+void generate_cards(struct chance *chance, struct block *block)
 {
     static const size_t lines[] = {1, 2, 3, 199};
 
@@ -159,7 +158,7 @@ void generate_good(struct chance *chance, struct block *block)
     if (one_in(chance, 12))
         build_mixed(chance, block);
     else if (one_in(chance, 12))
-        build_cards(chance, block);
+        generate_cards(chance, block);
     else
         generate_words(chance, block, between(chance, BLOCK_LEAST, PICK(chance, mosts)));
 }
@@ -227,7 +226,7 @@ static void damage_twice(struct chance *chance, struct block *block)
 
 static void damage_only_cards(struct chance *chance, struct block *block)
 {
-    build_cards(chance, block);
+    generate_cards(chance, block);
     damage_cards(chance, block);
     block_seal(block);
 }
@@ -281,7 +280,7 @@ struct chance case_chance(uint64_t seed, uint64_t number)
 void generate_block(struct chance *chance, uint64_t number, struct block *block)
 {
     static void (*const recipes[])(struct chance *, struct block *) = {
-        build_any,    build_mixed,  build_cards,       build_limit,       damage_once, damage_once, build_mixed,
+        build_any,    build_mixed,  generate_cards,    build_limit,       damage_once, damage_once, build_mixed,
         damage_twice, damage_twice, damage_only_cards, damage_only_frame, damage_both, build_noise, build_bytes,
     };
 

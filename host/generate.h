@@ -18,6 +18,9 @@ void generate_words(struct chance *chance, struct block *block, size_t words);
 void generate_good(struct chance *chance, struct block *block);
 void generate_amendable(struct chance *chance, struct block *block);
 
+/* A Catalogue or Header as large as chance wants it, up to 198 cards. */
+void generate_cards(struct chance *chance, struct block *block);
+
 /* The block of a case, made with its chance. */
 void generate_block(struct chance *chance, uint64_t number, struct block *block);
 

@@ -1,4 +1,4 @@
-/* The calls of cedar.h once more, in plain C from document 01, to compare the library with. */
+/* The calls of cedar.h once more, in plain C from documents 01 and 02, to compare the library with. */
 #ifndef REFERENCE_H
 #define REFERENCE_H
 
@@ -26,5 +26,6 @@ uint64_t reference_prefix(uint16_t instrument);
 starting reference_sheet_start;
 amending reference_amend;
 undoing reference_undo;
+conversion reference_repack;
 
 #endif

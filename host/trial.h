@@ -10,7 +10,7 @@
 #include "tally.h"
 
 /* More than the largest n of an answer. */
-enum { ANSWERS = 47 };
+enum { ANSWERS = 53 };
 
 /* An answer as a bit, and those that a block alone decides, 0 to 9. */
 #define ANSWER(n) (UINT64_C(1) << (n))
