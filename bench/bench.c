@@ -17,13 +17,14 @@
 #include "cedar.h"
 #include "chance.h"
 #include "reference.h"
+#include "slices.h"
 #include "words.h"
 
 /* The calls through pointers, so that the compiler can take none of them out of a loop. */
 struct calls {
     const char *whose;
     uint64_t (*judge)(const uint8_t *, size_t);
-    conversion *to_lines, *to_block;
+    conversion *to_lines, *to_block, *repack;
     uint64_t (*prefix)(uint16_t);
     starting *start;
     amending *amend;
@@ -72,21 +73,26 @@ enum { LIBRARY, REFERENCE, NOTHING, SETS };
 
 /* The last ones cost what it costs to make a call. */
 static const struct calls sets[SETS] = {
-    {"library", cedar_judge, cedar_to_lines, cedar_to_block, cedar_prefix, cedar_sheet_start, cedar_amend, cedar_undo},
-    {"reference", reference_judge, reference_to_lines, reference_to_block, reference_prefix, reference_sheet_start,
-     reference_amend, reference_undo},
-    {"nothing", judge_nothing, convert_nothing, convert_nothing, prefix_nothing, start_nothing, amend_nothing,
-     undo_nothing},
+    {"library", cedar_judge, cedar_to_lines, cedar_to_block, cedar_repack, cedar_prefix, cedar_sheet_start, cedar_amend,
+     cedar_undo},
+    {"reference", reference_judge, reference_to_lines, reference_to_block, reference_repack, reference_prefix,
+     reference_sheet_start, reference_amend, reference_undo},
+    {"nothing", judge_nothing, convert_nothing, convert_nothing, convert_nothing, prefix_nothing, start_nothing,
+     amend_nothing, undo_nothing},
 };
 
 static struct block block;
 
-/* Every call writes over the lines of the one before it: nothing clears them. */
+/* Every call writes over the output of the one before it: nothing clears it. */
 static uint8_t text[CEDAR_TEXT_MOST];
 static size_t text_length;
 
 /* The block of these lines. */
 static uint8_t written[CEDAR_BLOCK_MOST];
+
+/* A night of the block again and again, and what is repacked of it. */
+static struct slice slice;
+static uint8_t repacked[SLICE_BYTES];
 
 /* The block's sheet, and the last value of its last record. */
 static uint8_t sheet[CEDAR_SHEET_BYTES];
@@ -122,11 +128,13 @@ static void build_catalogue(void)
     block_of_most_cards(&block);
 }
 
-/* As many records of so many words as a block can have. */
-static void build_equal(struct counts counts, size_t words)
+/* As many equal records as a block of at most so many words can have. */
+static void build_equal(struct counts counts, size_t most)
 {
+    size_t words = counts.lprol + 2 * counts.jpar + counts.mpar * (counts.nrow + 1);
+
     block_begin(&block);
-    while (block.words + words < BLOCK_MOST)
+    while (block.words + words < most)
         block_add_data(&block, counts);
     block_close(&block);
 }
@@ -135,7 +143,7 @@ static void build_records(void)
 {
     struct counts least = {PROLOGUE_LEAST, 0, 0, 0};
 
-    build_equal(least, PROLOGUE_LEAST);
+    build_equal(least, BLOCK_MOST);
 }
 
 /* Each with a value. */
@@ -143,7 +151,7 @@ static void build_value_records(void)
 {
     struct counts one_value = {PROLOGUE_LEAST, 1, 0, 0};
 
-    build_equal(one_value, PROLOGUE_LEAST + 2);
+    build_equal(one_value, BLOCK_MOST);
 }
 
 /* Refusal 3. */
@@ -159,6 +167,49 @@ static void build_bad_card(void)
     block_of_most_cards(&block);
     put_word(block.bytes, block.words - 1, CARD_MOST + 1);
     block_seal(&block);
+}
+
+/* The block as many times as a slice takes it. */
+static void build_night(void)
+{
+    slice_begin(&slice);
+    while (slice.length + block.length <= SLICE_BYTES)
+        slice_add(&slice, &block);
+}
+
+/* Records of 304 words, 30 heights with 8 values each, in half-empty blocks. */
+static void build_half_empty(void)
+{
+    struct counts usual = {PROLOGUE_LEAST, 20, 8, 30};
+
+    build_equal(usual, BLOCK_MOST / 2);
+    build_night();
+}
+
+/* Blocks of 36 bytes. */
+static void build_small_blocks(void)
+{
+    struct counts least = {PROLOGUE_LEAST, 0, 0, 0};
+
+    build_equal(least, BLOCK_LEAST);
+    build_night();
+}
+
+/* A Catalogue and a Header of 48 cards each, in half-empty blocks. */
+static void build_card_blocks(void)
+{
+    block_begin(&block);
+    block_add_cards(&block, CATALOGUE, 48);
+    block_add_cards(&block, HEADER, 48);
+    block_close(&block);
+    build_night();
+}
+
+/* Refusal 51: the last byte is cut off. */
+static void build_cut(void)
+{
+    build_half_empty();
+    slice_lend(&slice, slice.length - 1);
 }
 
 static void build_none(void)
@@ -196,6 +247,17 @@ static uint64_t to_bad_block(const struct calls *calls)
 static uint64_t to_no_block(const struct calls *calls)
 {
     return calls->to_block(text, text_length, written, 0);
+}
+
+static uint64_t repack(const struct calls *calls)
+{
+    return calls->repack(slice.bytes, slice.length, repacked, sizeof repacked);
+}
+
+/* Refusal 50. */
+static uint64_t repack_to_nothing(const struct calls *calls)
+{
+    return calls->repack(slice.bytes, slice.length, repacked, 0);
 }
 
 static uint64_t prefix_listed(const struct calls *calls)
@@ -254,6 +316,11 @@ static const struct task {
     {"block-k", build_k, to_block, 0},
     {"block-bad-last-line", build_values, to_bad_block, 22},
     {"block-no-room", build_values, to_no_block, 29},
+    {"repack-half-empty", build_half_empty, repack, 0},
+    {"repack-small-blocks", build_small_blocks, repack, 0},
+    {"repack-cards", build_card_blocks, repack, 0},
+    {"repack-cut", build_cut, repack, 51},
+    {"repack-no-room", build_half_empty, repack_to_nothing, 50},
     {"start-sheet", build_none, start_sheet, 0},
     {"amend-undo-data", build_values, amend_and_undo, 0},
     {"amend-undo-records", build_value_records, amend_and_undo, 0},
