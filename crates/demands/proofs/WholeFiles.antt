@@ -22,7 +22,7 @@ use Rattle.repacking.proofs.Fewest.{fewest}
 use Rattle.repacking.proofs.Made.{Whole, each-good, records-good, new-groups, groups-whole, made-accepted, made-groups}
 use Rattle.repacking.proofs.Known.{KnownSlice, slice-known, repacked-bound}
 use Rattle.demands.specs.Demand2.{bytesIn, wrote}
-use Rattle.demands.specs.WholeFiles.{SlicesExactly, LongFirst, BlockByBlock, BytesNeeded, EmptySlice, Repacking, BlocksAgain, SameRecords, FewestBlocks, FitsElseNew, RepackedTwice, NeverLonger}
+use Rattle.demands.specs.WholeFiles.{SlicesExactly, SliceTooLong, BlockByBlock, BytesNeeded, EmptySlice, Repacking, BlocksAgain, SameRecords, FewestBlocks, FitsElseNew, RepackedTwice, NeverLonger}
 use Rattle.demands.proofs.Demand2.{bytes-in, with-room}
 
 pub slices-exactly : SlicesExactly
@@ -106,9 +106,9 @@ module _ (slice : List ℕ) (bs : List (List ℕ)) (bytes : Below 256 slice) (gi
 
 -- ---- what is taken
 
-pub long-first : LongFirst
+pub slice-too-long : SliceTooLong
 unfolding repack blocksIn written
-long-first slice out h = simp (lt-ltb mostBytes (length slice) h)
+slice-too-long slice out h = simp (lt-ltb mostBytes (length slice) h)
 
 pub block-by-block : BlockByBlock
 unfolding repack blocksIn written

@@ -106,7 +106,8 @@ fn room_for(place: Place, k: Words) -> Place
     ensures { λ r. ⌜ r ≡ roomFor place (k .0) ⌝ }
 {
     let used = place.used.0;
-    let filled = used + k.0;
+    let size = k.0;
+    let filled = used + size;
     if filled <= words::MOST_RECORD_WORDS {
         return place;
     }
@@ -252,13 +253,13 @@ fn write_blocks(blocks: &[u8], out: &mut [u8])
     requires { ⌜ Packable (now blocks) (now out) ⌝ }
     ensures { λ _. ⌜ PackedInto (now (blocks .entry)) (now (out .entry)) (now (out .exit)) ⌝ }
 {
-    let end = blocks.len();
+    let all = blocks.len();
     let mut at = 0;
     let mut place = Place {
         start: Bytes(0),
         used: Words(0),
     };
-    while at < end {
+    while at < all {
         let rest = &blocks[at..];
         let size = units::bytes_of_words(stated_words(rest)).0;
         place = put_records(&rest[..size], out, place);

@@ -1,5 +1,6 @@
 use mathlib.Core.Path.{_≡_, ap}
 use Prim.Native.Nat.{ℕ, _+_}
+use native.Mathlib.Omega.{arith}
 use borrow.Author.Tests.{eq-eqb, ne-eqb}
 use borrow.Author.Needs.{needs}
 use Rattle.units.specs.Units.{bytesOfWords}
@@ -22,6 +23,6 @@ pub bytes-to-spec : {M : Type 1} → statement M
 bytes-to-spec =
     tie.close
     (tie.spec
-    (λ c. none-yet _ (c .if1 .taken))
+    (λ c. none-yet _ (omega (arith, c .if1 .taken)))
     (λ c. search needs) (λ c κs. search needs) (λ c. search needs)
     (λ c. with-last _ (c .before .before .if1 .left) (c .before .bytes-of-words .ensures)))

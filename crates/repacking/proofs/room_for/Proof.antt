@@ -1,5 +1,6 @@
 use mathlib.Core.Path.{_≡_, ap}
 use Prim.Native.Nat.{ℕ, _+_, _≤_, _<_}
+use native.Mathlib.Omega.{arith}
 use borrow.Author.Tests.{le-leb, lt-leb}
 use borrow.Author.Needs.{needs}
 use Rattle.units.specs.Units.{bytesOfWords}
@@ -24,6 +25,6 @@ room-for-spec =
     tie.close
     (tie.spec
     (λ c. search needs)
-    (λ c. room-here _ (c .before .before .args .k .0) (c .if1 .taken))
+    (λ c. room-here _ (c .before .args .k .0) (omega (arith, c .if1 .taken)))
     (λ c. search needs) (λ c κs. search needs) (λ c. search needs)
-    (λ c. room-next _ (c .before .before .before .before .before .args .k .0) (c .before .before .before .if1 .left) (c .before .before .bytes-of-words .ensures)))
+    (λ c. room-next _ (c .before .before .before .before .args .k .0) (omega (arith, c .before .before .before .if1 .left)) (c .before .before .bytes-of-words .ensures)))

@@ -13,10 +13,10 @@ use Rattle.repacking.proofs.write_blocks.Statement.{statement}
 use Rattle.repacking.proofs.write_blocks.Tie as tie
 
 abbrev Inv-loop : tie.InvT-loop
-Inv-loop blocks out₀ end at₀ place₀ out at place = Rewriting blocks out₀ out at place
+Inv-loop blocks out₀ all at₀ place₀ out at place = Rewriting blocks out₀ out at place
 
 abbrev μ-loop : tie.MeasureT-loop
-μ-loop blocks out₀ end at₀ place₀ out at place = length blocks - at
+μ-loop blocks out₀ all at₀ place₀ out at place = length blocks - at
 
 -- what is left of the slice from here on
 rest-is : (c : tie.After-rest Inv-loop μ-loop) → let b = now (c .before .before .before .before .before .args .blocks) in let at = c .before .before .loop .at in
@@ -28,14 +28,14 @@ rest-is c = let b = now (c .before .before .before .before .before .args .blocks
 found : (c : tie.After-bytes-of-words Inv-loop μ-loop) → let r = c .before .before in let b = now (r .before .before .before .before .before .args .blocks) in let at = r .before .before .loop .at in
     NextBlock (r .before .before .loop .inv) (take (length b - at) (drop at b)) (c .bytes-of-words .result .0)
 found c = let r = c .before .before in
-    next-block (r .before .before .loop .inv) (rest-is r) (r .before .loop-test .taken) (c .bytes-of-words .ensures ∙ ap bytesOfWords (c .before .stated-words .ensures .0))
+    next-block (r .before .before .loop .inv) (rest-is r) (omega (arith, r .before .loop-test .taken)) (c .bytes-of-words .ensures ∙ ap bytesOfWords (c .before .stated-words .ensures .0))
 
 loop-holds : tie.Need-loop-holds Inv-loop μ-loop
 loop-holds c = let b = now (c .before .before .args .blocks) in
     rewriting-start b (now (c .before .before .args .out)) (all-below 256 b (λ i. omega (arith, c .before .shared-slice-known .given i))) (c .before .before .pre)
 
 stated-words-requires : tie.Need-stated-words-requires Inv-loop μ-loop
-stated-words-requires c κs = omega (arith, ap length (rest-is c), room-left (c .before .before .loop .inv) (c .before .loop-test .taken))
+stated-words-requires c κs = omega (arith, ap length (rest-is c), room-left (c .before .before .loop .inv) (omega (arith, c .before .loop-test .taken)))
 
 put-records-requires : tie.Need-put-records-requires Inv-loop μ-loop
 put-records-requires c κs = let n = found (c .before .before) in (n .good, n .fits)
@@ -51,11 +51,11 @@ loop-again c = found (c .before .before .before .before .before) .on (c .before 
 
 seal-at-requires : tie.Need-seal-at-requires Inv-loop μ-loop
 unfolding placeAfter
-seal-at-requires c κs = let f = last-fits (c .before .before .loop .inv) (c .before .loop-test .left) in (f .used, f .room)
+seal-at-requires c κs = let f = last-fits (c .before .before .loop .inv) (omega (arith, c .before .loop-test .left)) in (f .used, f .room)
 
 returns : tie.Need-returns Inv-loop μ-loop
 returns c = let e = c .before .before .before .before in let l = e .before .loop in
-    rewritten (l .inv) (e .loop-test .left) (sealed-finished (l .out) (l .place) (c .before .before .seal-at .ensures))
+    rewritten (l .inv) (omega (arith, e .loop-test .left)) (sealed-finished (l .out) (l .place) (c .before .before .seal-at .ensures))
 
 pub write-blocks-spec : {M : Type 1} → statement M
 write-blocks-spec =

@@ -1,3 +1,4 @@
+use native.Mathlib.Omega.{arith}
 use borrow.Author.Needs.{needs}
 use denote.Ref.{now}
 use Rattle.repacking.proofs.Outcome.{Needs, needs-of, packed-short, packed-all, packed-none, can-pack}
@@ -9,10 +10,10 @@ its : (c : tie.Start) → Needs (now (c .args .blocks)) (c .args .needed .0)
 its c = needs-of (now (c .args .blocks)) (c .args .needed .0) (c .pre .0)
 
 returns : tie.Need-returns
-returns c = packed-short _ _ (its (c .before .before .before)) (c .if1 .taken)
+returns c = packed-short _ _ (its (c .before .before .before)) (omega (arith, c .if1 .taken))
 
 returns-2 : tie.Need-returns-2
-returns-2 c = packed-none _ _ (its (c .before .before .before .before)) (c .if2 .taken)
+returns-2 c = packed-none _ _ (its (c .before .before .before .before)) (omega (arith, c .if2 .taken))
 
 write-blocks-requires : tie.Need-write-blocks-requires
 write-blocks-requires c κs = let s = c .before .before .before .before .before in can-pack _ _ (its s) (s .pre .1) (c .before .before .if1 .left) (c .before .if2 .left)
