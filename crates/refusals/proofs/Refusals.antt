@@ -1,6 +1,6 @@
 -- The tables are computed.
 use mathlib.Core.Path.{_≡_, refl, ap}
-use mathlib.Core.List.{List}
+use mathlib.Core.List.{List, flatten}
 use Prim.Native.Nat.{ℕ, _<_}
 use lib.ListN.{length, replicate}
 use Rattle.units.specs.Answers.{answer, refused}
@@ -31,14 +31,21 @@ use Rattle.read_text.specs.Block.{readText, wordsIn, toBlock}
 use Rattle.sheet.specs.Sheets.{sheetOf, sheetWith, entriesOf, entries, opened, started, broken, allZero}
 use Rattle.block_value.specs.Places.{noRecord, stands}
 use Rattle.amending.specs.Amending.{amendable, undoable, onBoth}
-use Rattle.refusals.specs.Questions.{turned, wordPut, cutTo}
-use Rattle.refusals.specs.Refusals.{badBlocks, blockTrials, badTexts, textTrials, roomTrials, sheetTrials, amendTrials, undoTrials, EveryRefusal}
-use Rattle.refusals.specs.Orders.{everyTwo, frameOrder, twoDataOrder, shortCatalogueOrder, cardsOrder, blockOrders, recordsOrder, linesOrders, onLine, dataLinesOrder, leftToRight, firstLineOrder, cardLinesOrder, blankLinesOrder, textOrders, amendOrders, undoOrders, EveryOrder, LongFirst}
+use Rattle.repacking.specs.Blocks.{wrongFirst, judgeStated, judgeBlock, blocksFrom, blocksIn}
+use Rattle.repacking.specs.Packing.{packed, groups, repacked, repack}
+use Rattle.refusals.specs.Questions.{AnsweredSo, turned, wordPut, cutTo}
+use Rattle.refusals.specs.Refusals.{statedBlocks, badBlocks, blockTrials, badTexts, textTrials, roomTrials, sheetTrials, amendTrials, undoTrials, badSlices, repackTrials, EveryRefusal}
+use Rattle.refusals.specs.Orders.{everyTwo, sizeOrder, checksumOrder, frameOrder, twoDataOrder, shortCatalogueOrder, cardsOrder, blockOrders, ownOrder, recordsOrder, linesOrders, onLine, dataLinesOrder, leftToRight, firstLineOrder, cardLinesOrder, blankLinesOrder, textOrders, amendOrders, undoOrders, startOrder, repackOrders, EveryOrder, LongFirst, LongSliceFirst}
+
+-- of slices of blocks, by themselves: together with the others they are more than one declaration may compute
+slices : AnsweredSo repackTrials × AnsweredSo repackOrders
+unfolding statedBlocks badSlices repackTrials everyTwo checksumOrder ownOrder startOrder repackOrders turned wordPut cutTo judged wrongSize walk judgeRecord judgeCards judgeContent judgeData judgeCounts inRange wrongTotal underLeast passing wordWithin wordsOf bytesOf xorAll ones onesIn recordsOf cut written framed joined flatten wrongFirst judgeStated judgeBlock blocksFrom blocksIn packed groups repacked repack
+slices = (refl, refl)
 
 -- both tables: one equation for each call
 tables : EveryRefusal × EveryOrder
-unfolding badBlocks blockTrials badTexts textTrials roomTrials sheetTrials amendTrials undoTrials everyTwo frameOrder twoDataOrder shortCatalogueOrder cardsOrder blockOrders recordsOrder linesOrders onLine dataLinesOrder leftToRight firstLineOrder cardLinesOrder blankLinesOrder textOrders amendOrders undoOrders turned wordPut cutTo judged wrongSize walk judgeRecord judgeCards judgeContent judgeData judgeCounts inRange wrongTotal underLeast passing wordWithin wordsOf bytesOf xorAll ones onesIn recordsOf cut toLines written textOf ended linesOf laid cardLines plan part times fieldsOf fieldOf decimal lineCount framed joined bytesFrom wordsIn toBlock readText linesIn endLength onto readLines atEnd readLine inState laterFields firstLine firstFields kindFields catalogueFields headerFields dataFields countFields countsIn prologueFields dataRoom cardsRoom fieldNumbers zeroFields zeroField number readField columns blankAfter rightTo plainLine sheetOf sheetWith entriesOf entries opened started broken allZero isValue noRecord stands amendable undoable onBoth
-tables = ((refl, refl, refl, refl, refl, refl), (refl, refl, refl, refl, refl))
+unfolding statedBlocks badBlocks blockTrials badTexts textTrials roomTrials sheetTrials amendTrials undoTrials everyTwo sizeOrder checksumOrder frameOrder twoDataOrder shortCatalogueOrder cardsOrder blockOrders ownOrder recordsOrder linesOrders onLine dataLinesOrder leftToRight firstLineOrder cardLinesOrder blankLinesOrder textOrders amendOrders undoOrders turned wordPut cutTo judged wrongSize walk judgeRecord judgeCards judgeContent judgeData judgeCounts inRange wrongTotal underLeast passing wordWithin wordsOf bytesOf xorAll ones onesIn recordsOf cut toLines written textOf ended linesOf laid cardLines plan part times fieldsOf fieldOf decimal lineCount framed joined bytesFrom wordsIn toBlock readText linesIn endLength onto readLines atEnd readLine inState laterFields firstLine firstFields kindFields catalogueFields headerFields dataFields countFields countsIn prologueFields dataRoom cardsRoom fieldNumbers zeroFields zeroField number readField columns blankAfter rightTo plainLine sheetOf sheetWith entriesOf entries opened started broken allZero isValue noRecord stands amendable undoable onBoth
+tables = ((refl, refl, refl, refl, refl, refl, slices .0), (refl, refl, refl, refl, refl, slices .1))
 
 pub every-refusal : EveryRefusal
 every-refusal = tables .0
@@ -59,3 +66,11 @@ long-built lines out h = simp (long-read lines h)
 pub long-first : LongFirst
 unfolding wordsIn
 long-first lines room h = (simp (long-read lines h), ap (λ (w : Written). w .answer) (long-built lines (replicate room 0) h))
+
+-- so with a slice's length, before any block
+long-slice : (slice out : List ℕ) → 64000 < length slice → repack slice out ≡ leaves (answer 52 0 0 0) out
+unfolding repack blocksIn written
+long-slice slice out h = simp (lt-ltb _ _ h)
+
+pub long-slice-first : LongSliceFirst
+long-slice-first slice room h = ap (λ (w : Written). w .answer) (long-slice slice (replicate room 0) h)

@@ -5,7 +5,8 @@
 -- 4 with 8, with a Header's 7, with 9's words 16 and 1 (these words are lacking), 25 with a row of the line that is lacking;
 -- 6, and 9 at word 1, with the rows of the next record (where it begins is not known); 22 of a count with 28 and 24, and it, 23 and 27 with 22, 25 and 26 of
 -- later lines (what is asked of them is not known); 28 of Data with 26 of the next line (a field stands there);
--- 21 with 22 to 28 (a line that is not blank begins a record), 45 with 46 (no entry is the last), 29 with a row before it (what is needed is not known).
+-- 21 with 22 to 28 (a line that is not blank begins a record), 45 with 46 (no entry is the last), 29 or 50 with a row before it (what is needed is not known);
+-- in a slice of blocks 1 and 51 with the block's own and with the blocks behind it (where they begin is not known), 51 of one byte left with 1 (no first word).
 use Prim.Native.Nat.{ℕ, _+_, _-_, _<_}
 use mathlib.Core.Path.{_≡_}
 use mathlib.Core.List.{List, [], _∷_, _++_, map}
@@ -13,12 +14,12 @@ use lib.ListN.{length, getD, set, take, drop}
 use Rattle.units.specs.declared.Answer.{Answer}
 use Rattle.units.specs.Answers.{answer}
 use Rattle.units.specs.Units.{Line}
-use Rattle.words.specs.Words.{blockFrom}
+use Rattle.words.specs.Words.{joined, blockFrom}
 use Rattle.field.specs.Writing.{blanks}
 use Rattle.write_parts.specs.Laid.{fieldsOf, ended}
 use Rattle.report.specs.Text.{text}
 use Rattle.sheet.specs.Sheets.{Entry}
-use Rattle.refusals.specs.Questions.{Question, judgeBlock, blockToLines, judgeText, linesToBlock, amendValue, undoLast, answerTo, Trial, AnsweredSo, cardsOf, leastRecord, valueRecord, blankCard, inPlace, turned, wordPut, cutTo, dataLine, cardsLine, freeFields, noneStands, oneStands, allStand}
+use Rattle.refusals.specs.Questions.{Question, judgeBlock, blockToLines, judgeText, linesToBlock, amendValue, undoLast, repackBlocks, answerTo, Trial, AnsweredSo, cardsOf, leastRecord, valueRecord, blankCard, inPlace, turned, wordPut, cutTo, dataLine, cardsLine, freeFields, noneStands, oneStands, allStand}
 
 -- a change of what is lent, and what is told when it alone is made
 abbrev pub Change : Type 0 → Type 0
@@ -39,14 +40,20 @@ none a = a
 
 -- ---- "Order for a block: 1, 2, 3, then each record: 4, 5, 6, 7, 8, 9"
 
--- one byte more; word 1 is 0; two bits of the checksum
-unfoldable pub frameOrder : List (Change (List ℕ))
+-- one byte more; word 1 is 0
+unfoldable pub sizeOrder : List (Change (List ℕ))
 unfolding wordPut turned
-frameOrder =
-    (λ b. b ++ (0 ∷ []), answer 1 0 0 0)
-    ∷ (wordPut 0 1 0, answer 2 0 0 0)
-    ∷ (turned 3, answer 3 0 0 2)
-    ∷ []
+sizeOrder = (λ b. b ++ (0 ∷ []), answer 1 0 0 0) ∷ (wordPut 0 1 0, answer 2 0 0 0) ∷ []
+
+-- two bits of the checksum
+unfoldable pub checksumOrder : List (Change (List ℕ))
+unfolding turned
+checksumOrder = (turned 3, answer 3 0 0 2) ∷ []
+
+-- "1, 2, 3"
+unfoldable pub frameOrder : List (Change (List ℕ))
+unfolding sizeOrder checksumOrder
+frameOrder = sizeOrder ++ checksumOrder
 
 -- two Data records; the second begins behind 17 words, and 4 leaves it 15
 unfoldable pub twoDataOrder : List (Change (List ℕ))
@@ -128,11 +135,11 @@ roomOrder bytes = (noRoom, answer 29 bytes 0 0) ∷ (none, answer 0 bytes 0 0) �
 abbrev pub threeRecords : List ℕ
 threeRecords = blockFrom (valueRecord ++ cardsOf 2001 blankCard ++ leastRecord)
 
--- of these: each number of a block once, record after record
-unfoldable pub recordsOrder : List (Change (List ℕ))
-unfolding wordPut turned cutTo frameOrder
-recordsOrder =
-    frameOrder
+-- of these: each number from 3 on once, record after record
+unfoldable pub ownOrder : List (Change (List ℕ))
+unfolding wordPut turned cutTo checksumOrder
+ownOrder =
+    checksumOrder
     ++ ((wordPut 1 2 0, answer 5 1 2 0)
     ∷ (wordPut 1 1 15, answer 6 1 1 0)
     ∷ (wordPut 1 13 15, answer 9 1 13 0)
@@ -140,6 +147,11 @@ recordsOrder =
     ∷ (wordPut 19 41 0x201F, answer 8 2 41 0)
     ∷ (cutTo 113, answer 4 3 1 0)
     ∷ [])
+
+-- and each number of a block
+unfoldable pub recordsOrder : List (Change (List ℕ))
+unfolding sizeOrder ownOrder
+recordsOrder = sizeOrder ++ ownOrder
 
 -- "To lines: the block, then 29"; their lines have 111, 202 and 97 bytes
 unfoldable pub linesOrders : List Trial
@@ -267,6 +279,37 @@ undoOrders =
     ∷ (none, answer 0 0 0 0)
     ∷ []))
 
+-- ---- document 02, request 1: "52 ... first of all; then block by block 51 ... before the block's own refusals ...; a first word ... is 1, before 51; 50 ... last of all"
+
+-- another block n
+abbrev pub inNth : ℕ → (List ℕ → List ℕ) → List (List ℕ) → List (List ℕ)
+inNth n f blocks = set blocks (n - 1) (f (getD blocks (n - 1) []))
+
+-- the slice ends behind the first k bytes of block n
+abbrev pub endsIn : ℕ → ℕ → List (List ℕ) → List (List ℕ)
+endsIn n k blocks = take (n - 1) blocks ++ (take k (getD blocks (n - 1) []) ∷ [])
+
+-- where block n begins: "only one byte is left"; the first word is 17; 32 bytes are left, and 17 words would have 34
+unfoldable pub startOrder : ℕ → List (Change (List (List ℕ)))
+unfolding wordPut turned
+startOrder n = (endsIn n 1, answer 51 n 0 0) ∷ (inNth n (wordPut 0 1 17), answer 1 0 0 0) ∷ (endsIn n 32, answer 51 n 0 0) ∷ []
+
+-- "the block's own refusals, which keep their numbers"
+abbrev pub ownOf : ℕ → List (Change (List (List ℕ)))
+ownOf n = inPart (inNth n) ownOrder
+
+-- of two blocks, whose records go into one of 230 words
+unfoldable pub repackOrders : List Trial
+unfolding startOrder ownOrder everyTwo
+repackOrders =
+    everyTwo (λ c. repackBlocks (joined (c .input)) (c .room)) (record { input = threeRecords ∷ threeRecords ∷ []; room = 460 })
+    (inPart inInput (startOrder 1 ++ ownOf 1 ++ startOrder 2 ++ ownOf 2)
+    ++ ((noRoom, answer 50 460 0 0) ∷ (none, answer 0 460 0 0) ∷ []))
+
+-- "52 ... first of all": whatever else is wrong in a slice that is too long
+abbrev pub LongSliceFirst : Type 0
+LongSliceFirst = (slice : List ℕ) (room : ℕ) → 64000 < length slice → answerTo (repackBlocks slice room) ≡ answer 52 0 0 0
+
 -- each order is kept
 abbrev pub EveryOrder : Type 0
-EveryOrder = AnsweredSo blockOrders × AnsweredSo linesOrders × AnsweredSo textOrders × AnsweredSo amendOrders × AnsweredSo undoOrders
+EveryOrder = AnsweredSo blockOrders × AnsweredSo linesOrders × AnsweredSo textOrders × AnsweredSo amendOrders × AnsweredSo undoOrders × AnsweredSo repackOrders

@@ -1,4 +1,4 @@
--- Document 01, "Answer numbers": a call with what is lent to it, and what its definition answers. Then the inputs of the tables.
+-- Document 01, "Answer numbers", and document 02: a call with what is lent to it, and what its definition answers. Then the inputs of the tables.
 use Prim.Native.Nat.{ℕ, _+_, _-_}
 use mathlib.Core.Path.{_≡_}
 use mathlib.Core.List.{List, [], _∷_, _++_, map}
@@ -14,6 +14,7 @@ use Rattle.write_lines.specs.Text.{toLines}
 use Rattle.read_text.specs.Block.{wordsIn, toBlock}
 use Rattle.sheet.specs.Sheets.{Entry, version1, sheetOf, opened, started}
 use Rattle.amending.specs.Amending.{amend, undo}
+use Rattle.repacking.specs.Packing.{repack}
 
 -- a call and what is lent to it: the bytes of each buffer, and of an output how many there are
 pub data Question : Type 0 where
@@ -25,6 +26,7 @@ pub data Question : Type 0 where
   startSheet : List ℕ → Question
   amendValue : List ℕ → List ℕ → Entry → Question
   undoLast : List ℕ → List ℕ → Question
+  repackBlocks : List ℕ → ℕ → Question
 
 -- the four numbers that the call's definition answers
 abbrev pub answerTo : Question → Answer
@@ -36,6 +38,7 @@ answerTo (openSheet sheet) = answered (opened version1 sheet)
 answerTo (startSheet sheet) = started version1 sheet .answer
 answerTo (amendValue block sheet entry) = amend version1 entry block sheet .answer
 answerTo (undoLast block sheet) = undo version1 block sheet .answer
+answerTo (repackBlocks slice room) = repack slice (replicate room 0) .answer
 
 -- a call with what is lent to it, and the answer that the paper gives
 abbrev pub Trial : Type 0

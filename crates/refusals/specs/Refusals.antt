@@ -1,15 +1,15 @@
--- Document 01, "Answer numbers": for each call a least input for each of its refusals. Where a row of the paper names several things, or has an edge, there
--- is an input for each. What is proved is the answer, not that no shorter input has it.
-use Prim.Native.Nat.{ℕ}
+-- Document 01, "Answer numbers", and document 02: for each call a least input for each of its refusals. Where a row of a paper names several things, or has
+-- an edge, there is an input for each. What is proved is the answer, not that no shorter input has it.
+use Prim.Native.Nat.{ℕ, _-_}
 use mathlib.Core.List.{List, [], _∷_, _++_}
 use lib.ListN.{replicate, take}
 use Rattle.units.specs.declared.Answer.{Answer}
 use Rattle.units.specs.Answers.{answer}
-use Rattle.words.specs.Words.{blockFrom}
+use Rattle.words.specs.Words.{bytesOf, blockFrom}
 use Rattle.write_parts.specs.Laid.{fieldsOf}
 use Rattle.field.specs.Writing.{blanks}
 use Rattle.report.specs.Text.{text}
-use Rattle.refusals.specs.Questions.{Trial, AnsweredSo, lentTo, judgeBlock, blockToLines, judgeText, linesToBlock, openSheet, startSheet, amendValue, undoLast, dataOf, cardsOf, leastRecord, valueRecord, blankCard, inPlace, turned, wordPut, dataLine, cardsLine, freeFields, noneStands, oneStands, allStand}
+use Rattle.refusals.specs.Questions.{Trial, AnsweredSo, lentTo, judgeBlock, blockToLines, judgeText, linesToBlock, openSheet, startSheet, amendValue, undoLast, repackBlocks, dataOf, cardsOf, leastRecord, valueRecord, blankCard, inPlace, turned, wordPut, dataLine, cardsLine, freeFields, noneStands, oneStands, allStand}
 
 -- the block of the least record, 18 words
 abbrev pub leastBlock : List ℕ
@@ -27,17 +27,11 @@ headWith kind k w = wordPut 1 k w (blockFrom (cardsOf kind []))
 abbrev pub cardWith : ℕ → ℕ → ℕ → List ℕ
 cardWith kind k w = wordPut 1 k w (blockFrom (cardsOf kind blankCard))
 
--- blocks that are refused, "Order for a block: 1, 2, 3, then each record: 4, 5, 6, 7, 8, 9"
-unfoldable pub badBlocks : List (List ℕ × Answer)
+-- blocks of the size that their length word states, and refused: 3, "then each record: 4, 5, 6, 7, 8, 9"
+unfoldable pub statedBlocks : List (List ℕ × Answer)
 unfolding wordPut turned
-badBlocks =
-    -- "byte count odd, under 36 or over 16,000"
-    (replicate 37 0, answer 1 0 0 0)
-    ∷ ([], answer 1 0 0 0)
-    ∷ (replicate 34 0, answer 1 0 0 0)
-    ∷ (replicate 16002 0, answer 1 0 0 0)
-    ∷ (wordPut 0 1 17 leastBlock, answer 2 0 0 0)
-    ∷ (turned 1 leastBlock, answer 3 0 0 1)
+statedBlocks =
+    (turned 1 leastBlock, answer 3 0 0 1)
     ∷ (turned 0xFFFF leastBlock, answer 3 0 0 16)
     -- of 17 record words the first record has 16
     ∷ (blockFrom (leastRecord ++ (0 ∷ [])), answer 4 2 1 0)
@@ -69,6 +63,18 @@ badBlocks =
     ∷ (leastWith 16 0xFFFF, answer 9 1 16 0)
     ∷ (leastWith 14 1, answer 9 1 1 0)
     ∷ []
+
+-- blocks that are refused, "Order for a block: 1, 2, 3, then each record"
+unfoldable pub badBlocks : List (List ℕ × Answer)
+unfolding wordPut turned statedBlocks
+badBlocks =
+    -- "byte count odd, under 36 or over 16,000"
+    (replicate 37 0, answer 1 0 0 0)
+    ∷ ([], answer 1 0 0 0)
+    ∷ (replicate 34 0, answer 1 0 0 0)
+    ∷ (replicate 16002 0, answer 1 0 0 0)
+    ∷ (wordPut 0 1 17 leastBlock, answer 2 0 0 0)
+    ∷ statedBlocks
 
 -- "Judge a binary block"; "To lines: the block, then 29"; "Amend: block, 40"; "Undo: block, 40": the others with no room and no sheet
 unfoldable pub blockTrials : List Trial
@@ -211,6 +217,54 @@ undoTrials =
     ∷ (undoLast (blockFrom valueRecord) (oneStands (1 ∷ 18 ∷ 900 ∷ 905 ∷ [])), answer 46 0 0 0)
     ∷ []
 
+-- slices that are refused: the block stands first in it, or behind a good one
+unfoldable pub badSlices : List (List ℕ × Answer)
+unfolding bytesOf
+badSlices =
+    -- "slice over 64,000 bytes"; one of 64,000 is asked for its first word
+    (replicate 64001 0, answer 52 0 0 0)
+    ∷ (replicate 64000 0, answer 1 0 0 0)
+    -- "only one byte is left"
+    ∷ (0 ∷ [], answer 51 1 0 0)
+    ∷ (leastBlock ++ (0 ∷ []), answer 51 2 0 0)
+    -- "the block runs past the slice": a byte, a word, and all but the first word of the least and of the longest
+    ∷ (take 35 leastBlock, answer 51 1 0 0)
+    ∷ (take 34 leastBlock, answer 51 1 0 0)
+    ∷ (bytesOf (18 ∷ []), answer 51 1 0 0)
+    ∷ (bytesOf (8000 ∷ []), answer 51 1 0 0)
+    ∷ (leastBlock ++ take 35 leastBlock, answer 51 2 0 0)
+    -- "a first word under 18 or over 8,000"; all but the block of 0 words run past the slice too
+    ∷ (bytesOf (0 ∷ []), answer 1 0 0 0)
+    ∷ (bytesOf (17 ∷ []), answer 1 0 0 0)
+    ∷ (bytesOf (8001 ∷ []), answer 1 0 0 0)
+    ∷ (bytesOf (0xFFFF ∷ []), answer 1 0 0 0)
+    ∷ (leastBlock ++ bytesOf (17 ∷ []), answer 1 0 0 0)
+    ∷ (leastBlock ++ bytesOf (8001 ∷ []), answer 1 0 0 0)
+    ∷ []
+
+-- the block of a Data record of n words, all of them its prologue's
+abbrev pub prologueBlock : ℕ → List ℕ
+prologueBlock n = blockFrom (dataOf (n ∷ 0 ∷ 0 ∷ 0 ∷ replicate (n - 16) 0))
+
+-- "it takes blocks one after the other ... and writes blocks again"
+unfoldable pub repackTrials : List Trial
+unfolding badSlices statedBlocks
+repackTrials =
+    -- "the block's own refusals, which keep their numbers", from 3 on: its size is what its first word states, so its own 1 and 2 cannot be
+    lentTo (λ s. repackBlocks s 0) (badSlices ++ statedBlocks)
+    ++ lentTo (λ b. repackBlocks (leastBlock ++ b) 0) statedBlocks
+    -- "output too short": a byte short of 18 words; of 34, since the records of both blocks go into one
+    ++ ((repackBlocks leastBlock 35, answer 50 36 0 0)
+    ∷ (repackBlocks (leastBlock ++ leastBlock) 67, answer 50 68 0 0)
+    ∷ (repackBlocks (leastBlock ++ leastBlock) 68, answer 0 68 0 0)
+    -- "An empty slice gives no blocks"; four of 8,000 words are 64,000 bytes
+    ∷ (repackBlocks [] 0, answer 0 0 0 0)
+    ∷ (let full = prologueBlock 7998 in repackBlocks (full ++ full ++ full ++ full) 64000, answer 0 64000 0 0)
+    -- "into the current block if it fits, else into a new one": 16 and 7,982 words make one of 8,000, and 16 and 7,983 stay two
+    ∷ (repackBlocks (leastBlock ++ prologueBlock 7982) 16000, answer 0 16000 0 0)
+    ∷ (repackBlocks (leastBlock ++ prologueBlock 7983) 16006, answer 0 16006 0 0)
+    ∷ [])
+
 -- each of them is answered so
 abbrev pub EveryRefusal : Type 0
-EveryRefusal = AnsweredSo blockTrials × AnsweredSo textTrials × AnsweredSo roomTrials × AnsweredSo sheetTrials × AnsweredSo amendTrials × AnsweredSo undoTrials
+EveryRefusal = AnsweredSo blockTrials × AnsweredSo textTrials × AnsweredSo roomTrials × AnsweredSo sheetTrials × AnsweredSo amendTrials × AnsweredSo undoTrials × AnsweredSo repackTrials
