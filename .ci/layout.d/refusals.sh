@@ -1,5 +1,5 @@
 # The refusal numbers of the definitions, of cedar.h and of refusals.txt are the same; `host/refusals` compares the last two.
-# Each has an input that is refused so, and a place in an order: that of 30 is the law `LongFirst`, which stands with the orders.
+# Each has an input that is refused so, and a place in an order: those of 30 and 52 are the laws `LongFirst` and `LongSliceFirst`, which stand with the orders.
 refusals_listed() {
     local list=include/refusals.txt tables=crates/refusals/specs
     host/refusals

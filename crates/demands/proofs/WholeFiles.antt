@@ -22,7 +22,7 @@ use Rattle.repacking.proofs.Fewest.{fewest}
 use Rattle.repacking.proofs.Made.{Whole, each-good, records-good, new-groups, groups-whole, made-accepted, made-groups}
 use Rattle.repacking.proofs.Known.{KnownSlice, slice-known, repacked-bound}
 use Rattle.demands.specs.Demand2.{bytesIn, wrote}
-use Rattle.demands.specs.WholeFiles.{SlicesExactly, SliceTooLong, BlockByBlock, BytesNeeded, EmptySlice, Repacking, BlocksAgain, SameRecords, FewestBlocks, FitsElseNew, RepackedTwice, NeverLonger}
+use Rattle.demands.specs.WholeFiles.{SlicesExactly, BlockByBlock, BytesNeeded, EmptySlice, Repacking, BlocksAgain, SameRecords, FewestBlocks, FitsElseNew, RepackedTwice, NeverLonger}
 use Rattle.demands.proofs.Demand2.{bytes-in, with-room}
 
 pub slices-exactly : SlicesExactly
@@ -105,10 +105,6 @@ module _ (slice : List ℕ) (bs : List (List ℕ)) (bytes : Below 256 slice) (gi
     result-is result made = cc (bytes-are, every-slice (bytesIn (repack slice out)) result made, every-slice (repacked (recordsIn bs)) (again bs) made-slice)
 
 -- ---- what is taken
-
-pub slice-too-long : SliceTooLong
-unfolding repack blocksIn written
-slice-too-long slice out h = simp (lt-ltb mostBytes (length slice) h)
 
 pub block-by-block : BlockByBlock
 unfolding repack blocksIn written

@@ -22,10 +22,6 @@ use Rattle.demands.specs.Demand2.{bytesIn, wrote}
 abbrev pub SlicesExactly : Type 0
 SlicesExactly = (slice : List ℕ) (blocks : List (List ℕ)) → (blocksIn slice ≡ passed blocks) ↔ IsSlice slice blocks
 
--- "52 slice over 64,000 bytes, first of all"
-abbrev pub SliceTooLong : Type 0
-SliceTooLong = (slice out : List ℕ) → mostBytes < length slice → repack slice out ≡ leaves (answer 52 0 0 0) out
-
 -- "then block by block": behind accepted blocks, the refusal of the next one is told, whatever stands behind it
 abbrev pub BlockByBlock : Type 0
 BlockByBlock =
