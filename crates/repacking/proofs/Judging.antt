@@ -48,7 +48,6 @@ pub record Judging (slice : List ℕ) (at number : ℕ) (p : Place) : Type 0 whe
   pub each : All BlockRecord (recordsIn done)
   pub used : p .used .0 ≤ mostRecordWords
   pub few : p .start .0 + bytesOfWords (p .used .0) ≤ 2 * at
-  pub number-least : 1 ≤ number
   pub number-most : 36 * number ≤ at + 36
   pub within : at ≤ length slice
 
@@ -66,7 +65,6 @@ judging-start slice =
       each = tt;
       used = omega arith;
       few = omega arith;
-      number-least = omega arith;
       number-most = omega arith;
       within = omega arith;
     }
@@ -134,7 +132,6 @@ module _ {slice : List ℕ} {at number : ℕ} {p : Place} (j : Judging slice at 
               each = rw (records-snoc (j .done) b) (all-append BlockRecord (recordsIn (j .done)) (recordsOf b) (j .each) (its .each));
               used = a .used;
               few = omega (arith, a .most, j .few, words-in);
-              number-least = omega arith;
               number-most = omega (arith, j .number-most, first .least);
               within = omega (arith, first .room, ap length lent, length-drop at slice);
             }

@@ -1,10 +1,10 @@
 -- Records put one after the other, or many at a time: what holds of those that are left.
 use mathlib.Core.Path.{_≡_, refl, sym, ap, _∙_}
-use mathlib.Core.List.{List, [], _∷_, _++_, append-assoc}
-use Prim.Native.Nat.{ℕ, _+_, _≤_}
+use mathlib.Core.List.{List, [], _++_, append-assoc}
+use Prim.Native.Nat.{ℕ, _+_}
 use native.Mathlib.Omega.{arith}
 use lib.ListN.{length}
-use Rattle.words.specs.Words.{All, mostRecordWords}
+use Rattle.words.specs.Words.{All}
 use Rattle.words.proofs.Lists.{all-parts}
 use Rattle.block.specs.Rules.{BlockRecord}
 use Rattle.repacking.specs.declared.Place.{Place}

@@ -1,7 +1,7 @@
 -- A loop that writes the blocks of an accepted slice again: what it keeps, and what a turn of it knows.
 use mathlib.Core.Path.{_≡_, refl, sym, ap, _∙_}
 use mathlib.Core.List.{List, [], _∷_, _++_, flatten, append-nil}
-use Prim.Native.Nat.{ℕ, _+_, _*_, _≤_, _<_}
+use Prim.Native.Nat.{ℕ, _+_, _≤_, _<_}
 use native.Mathlib.Omega.{arith}
 use lib.ListN.{length, take, drop, length-append, length-drop}
 use lib.Seq.{sets, take-at, drop-at, drop-drop, slice-empty}
@@ -10,12 +10,11 @@ use Rattle.units.specs.Answers.{passed}
 use Rattle.words.specs.Words.{wordsOf, word, joined, All, Below}
 use Rattle.block.specs.Judging.{Accepted}
 use Rattle.block.specs.Records.{recordsOf}
-use Rattle.block.specs.Rules.{BlockRecord}
 use Rattle.repacking.specs.declared.Place.{Place}
 use Rattle.repacking.specs.Blocks.{blocksFrom, recordsIn}
-use Rattle.repacking.specs.Packing.{packed, groups, repacked, blocksOf}
-use Rattle.repacking.specs.Places.{placeAt, sealedBytes, placeAfter, finished, Fitting, PutOn, Packable}
-use Rattle.repacking.proofs.Slices.{Stated, accepted-stated, same-first, slice-cut}
+use Rattle.repacking.specs.Packing.{packed, groups, repacked}
+use Rattle.repacking.specs.Places.{placeAt, finished, Fitting, PutOn, Packable}
+use Rattle.repacking.proofs.Slices.{accepted-stated, same-first, slice-cut}
 use Rattle.repacking.proofs.Groups.{some-packed}
 use Rattle.repacking.proofs.Made.{Good, each-good, records-good, never-longer}
 use Rattle.repacking.proofs.Places.{repacked-ends}

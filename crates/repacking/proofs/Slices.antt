@@ -24,7 +24,7 @@ use Rattle.repacking.specs.Rules.{IsSlice}
 -- ---- one block
 
 -- what is judged and then passes was passed on first
-pub onward-passed : {A B : Type 0} (v : Verdict A) (f : A → Verdict B) (y : B) → onward v f ≡ passed y → (x : A) × (v ≡ passed x) × (f x ≡ passed y)
+onward-passed : {A B : Type 0} (v : Verdict A) (f : A → Verdict B) (y : B) → onward v f ≡ passed y → (x : A) × (v ≡ passed x) × (f x ≡ passed y)
 onward-passed (passed x) f y e = (x, refl, e)
 onward-passed (refused r) f y e = absurd (never-passed e)
 
@@ -104,7 +104,7 @@ first-passes n b rest a =
 -- ---- all of them
 
 -- bytes that are skipped are as good as gone
-pub blocks-drop : (skip n : ℕ) (slice : List ℕ) → blocksFrom skip n slice ≡ blocksFrom 0 n (drop skip slice)
+blocks-drop : (skip n : ℕ) (slice : List ℕ) → blocksFrom skip n slice ≡ blocksFrom 0 n (drop skip slice)
 unfolding blocksFrom
 blocks-drop skip n [] = rw drop-nil
 blocks-drop zero n (b ∷ bs) = refl
@@ -152,7 +152,7 @@ blocks-on n b rest a =
     blocks-next n (length b) (b ++ rest) some (first-passes n b rest a) ∙ rw (take-append-seam b rest, drop-append-seam b rest)
 
 -- accepted blocks, one after the other, pass and are the blocks found
-pub slice-made : (n : ℕ) (bs : List (List ℕ)) → All Accepted bs → blocksFrom 0 n (joined bs) ≡ passed bs
+slice-made : (n : ℕ) (bs : List (List ℕ)) → All Accepted bs → blocksFrom 0 n (joined bs) ≡ passed bs
 unfolding blocksFrom joined
 slice-made n [] h = refl
 slice-made n (b ∷ bs) h = blocks-on n b (joined bs) (h .0) ∙ ap (before b) (slice-made (n + 1) bs (h .1))

@@ -1,7 +1,7 @@
 -- Records put into the output: what is still to be put in, from here, gives the whole.
 use mathlib.Core.Path.{_≡_, refl, sym, ap, ap₂, _∙_}
 use mathlib.Core.Bool.{Bool, true, false}
-use mathlib.Core.List.{List, [], _∷_, _++_, map, append-nil, append-assoc}
+use mathlib.Core.List.{List, [], _∷_, _++_, append-nil, append-assoc}
 use Prim.Native.Nat.{ℕ, _+_, _-_, _*_, _%_, _≤_, _<_}
 use native.Mathlib.Nat.{zero-add}
 use native.Mathlib.Omega.{arith}
@@ -16,10 +16,10 @@ use Rattle.words.proofs.Laws.{length-wordsOf, length-bytesOf, words-bytes, word
 use Rattle.words.proofs.Sealing.{length-framed}
 use Rattle.words.proofs.Writing.{sets-append}
 use Rattle.words.specs.Writing.{Room, Put}
-use Rattle.block.specs.Rules.{blockOf, BlockRecord}
+use Rattle.block.specs.Rules.{BlockRecord}
 use Rattle.repacking.specs.declared.Place.{Place}
 use Rattle.repacking.specs.Packing.{Group, onto, packed, blocksOf}
-use Rattle.repacking.specs.Places.{placeAt, sealedBytes, roomFor, behind, placeAfter, standing, finished, Fitting, RoomMade, PutOn}
+use Rattle.repacking.specs.Places.{placeLimit, placeAt, sealedBytes, roomFor, behind, placeAfter, standing, finished, Fitting, RoomMade, PutOn}
 use Rattle.repacking.proofs.Places.{room-at}
 use Rattle.repacking.proofs.Stores.{sets-over, drop-sets-add, words-append}
 
@@ -30,7 +30,7 @@ abbrev pub recordStart : Place → ℕ
 recordStart p = p .start .0 + bytesOfWords (p .used .0 + 1)
 
 module _ (out : List ℕ) (p : Place) where
-  pub length-standing : recordStart p ≤ length out → length (standing out p) ≡ p .used .0
+  length-standing : recordStart p ≤ length out → length (standing out p) ≡ p .used .0
   length-standing h =
       let d = drop (p .start .0) out in
       length-slice 1 (p .used .0 + 1) (wordsOf d) (omega (arith, length-wordsOf d, length-drop (p .start .0) out)) ∙ omega arith
@@ -85,7 +85,7 @@ onto-least x (g ∷ gs) = omega (arith, length-append (blockFrom (x ++ joined g)
 
 module _ (out : List ℕ) (p : Place) (r : List ℕ) where
   -- it goes into the current block
-  pub put-here : p .used .0 + length r ≤ mostRecordWords → recordStart p + bytesOfWords (length r) ≤ length out → {after : List ℕ}
+  put-here : p .used .0 + length r ≤ mostRecordWords → recordStart p + bytesOfWords (length r) ≤ length out → {after : List ℕ}
       → after ≡ sets out (recordStart p) (bytesOf r) → (others : List (List ℕ)) → finished after (behind p (length r)) others ≡ finished out p (r ∷ others)
   unfolding finished packed
   put-here fits room put others =
@@ -101,7 +101,7 @@ module _ (out : List ℕ) (p : Place) (r : List ℕ) where
       ∙ simp (le-leb (p .used .0 + length r) mostRecordWords fits))
 
   -- or the current block is sealed, and it goes into a new one
-  pub put-new : mostRecordWords < p .used .0 + length r → length r ≤ mostRecordWords → sealedBytes p ≤ length out → {after : List ℕ}
+  put-new : mostRecordWords < p .used .0 + length r → length r ≤ mostRecordWords → sealedBytes p ≤ length out → {after : List ℕ}
       → after ≡ sets out (p .start .0) (blockFrom (standing out p)) → (others : List (List ℕ)) → finished after (placeAt (sealedBytes p) 0) (r ∷ others) ≡ finished out p (r ∷ others)
   unfolding finished packed joined
   put-new full fits room {after} put others =
@@ -179,13 +179,13 @@ module _ (out : List ℕ) (p : Place) (k : ℕ) {next : Place} (is : next ≡ ro
 
 module _ {out : List ℕ} {p : Place} {r : List ℕ} (good : BlockRecord r) (f : Fitting out p (r ∷ [])) {k : ℕ} (size : k ≡ length r) where
   -- the current block can be sealed
-  pub can-seal : (k ≤ mostRecordWords) × (sealedBytes p ≤ length out) × (sealedBytes p ≤ 1000000)
+  pub can-seal : (k ≤ mostRecordWords) × (sealedBytes p ≤ length out) × (sealedBytes p ≤ placeLimit)
   unfolding placeAfter
   can-seal = let q = room-at p (length r) (good .most) in (omega (arith, good .most), omega (arith, f .room, q .least), omega (arith, f .few, q .least))
 
   module _ {mid : List ℕ} {q : Place} (made : RoomMade out p k mid q) where
     -- and the record has room at its place
-    pub room-is : (q .used .0 + k ≤ mostRecordWords) × (recordStart q + bytesOfWords k ≤ length mid) × (recordStart q + bytesOfWords k ≤ 1000000)
+    pub room-is : (q .used .0 + k ≤ mostRecordWords) × (recordStart q + bytesOfWords k ≤ length mid) × (recordStart q + bytesOfWords k ≤ placeLimit)
     unfolding placeAfter
     room-is =
         let at = room-at p (length r) (good .most) in

@@ -13,6 +13,10 @@ use Rattle.repacking.specs.declared.Place.{Place}
 use Rattle.repacking.specs.Blocks.{mostBytes, blocksFrom, recordsIn}
 use Rattle.repacking.specs.Packing.{onto, packed, blocksOf, repacked}
 
+-- places are counted in a machine's numbers, and of 64,000 bytes none comes so far, however they are packed
+abbrev pub placeLimit : ℕ
+placeLimit = 1000000
+
 -- behind `used` record words of the block that begins behind `start` bytes
 abbrev pub placeAt : ℕ → ℕ → Place
 placeAt start used = record { start = record { 0 = start }; used = record { 0 = used } }
@@ -49,13 +53,13 @@ finished out p rs = sets out (p .start .0) (blocksOf (onto (standing out p) (pac
 -- a place that its block has words for, and that these records do not take past what a machine can count
 pub record Countable (p : Place) (rs : List (List ℕ)) : Type 0 where
   pub used : p .used .0 ≤ mostRecordWords
-  pub bytes : p .start .0 + bytesOfWords (p .used .0) + 3 * length (joined rs) ≤ 1000000
+  pub bytes : p .start .0 + bytesOfWords (p .used .0) + 3 * length (joined rs) ≤ placeLimit
 
 -- a place from which these records fit into the output
 pub record Fitting (out : List ℕ) (p : Place) (rs : List (List ℕ)) : Type 0 where
   pub used : p .used .0 ≤ mostRecordWords
   pub room : sealedBytes (placeAfter p rs) ≤ length out
-  pub few : sealedBytes (placeAfter p rs) ≤ 1000000
+  pub few : sealedBytes (placeAfter p rs) ≤ placeLimit
 
 -- room was made for a record of k words: with it and others the output comes to the same
 pub record RoomMade (out : List ℕ) (p : Place) (k : ℕ) (after : List ℕ) (next : Place) : Type 0 where

@@ -18,7 +18,7 @@ ghost use Rattle.words.specs.Outcomes.{leaves, written};
 ghost use Rattle.repacking.specs.Blocks.{wrongFirst, judgeStated, judgeBlock, blocksFrom, recordsIn, mostBytes};
 ghost use Rattle.repacking.specs.Packing.{repacked};
 ghost use Rattle.repacking.specs.Promises.{Repacks};
-ghost use Rattle.repacking.specs.Places.{sealedBytes, standing, roomFor, behind, placeAfter, bytesTo, Countable, Fitting, RoomMade, PutOn, Packable, PackedInto};
+ghost use Rattle.repacking.specs.Places.{placeLimit, sealedBytes, standing, roomFor, behind, placeAfter, bytesTo, Countable, Fitting, RoomMade, PutOn, Packable, PackedInto};
 ghost use Rattle.repacking.specs.Cases.{sliceRefusalOf, measuredOf, repackedOf};
 
 // The most bytes of blocks that are repacked at a time.
@@ -39,7 +39,7 @@ pub enum Repacked {
 }
 
 // What is found of blocks that are judged: a count of bytes, or the slice's refusal.
-pub enum Measured {
+enum Measured {
     Size(Bytes),
     Wrong(SliceRefusal),
 }
@@ -95,14 +95,14 @@ fn judge_block(rest: &[u8], number: u16) -> Measured
 }
 
 // Where the next record goes: behind `used` record words of the block that begins behind `start` bytes of the output.
-pub struct Place {
-    pub start: Bytes,
-    pub used: Words,
+struct Place {
+    start: Bytes,
+    used: Words,
 }
 
 // The place for a record of `k` words: in the current block if it fits, else in a new one.
 fn room_for(place: Place, k: Words) -> Place
-    requires { ⌜ (place .used .0 ≤ mostRecordWords) × (k .0 ≤ mostRecordWords) × (place .start .0 ≤ 1000000) ⌝ }
+    requires { ⌜ (place .used .0 ≤ mostRecordWords) × (k .0 ≤ mostRecordWords) × (place .start .0 ≤ placeLimit) ⌝ }
     ensures { λ r. ⌜ r ≡ roomFor place (k .0) ⌝ }
 {
     let used = place.used.0;
@@ -152,7 +152,7 @@ fn count_records(block: &[u8], place: Place) -> Place
 
 // The bytes of the blocks up to a place.
 fn bytes_to(place: Place) -> Bytes
-    requires { ⌜ (place .used .0 ≤ mostRecordWords) × (place .start .0 ≤ 1000000) ⌝ }
+    requires { ⌜ (place .used .0 ≤ mostRecordWords) × (place .start .0 ≤ placeLimit) ⌝ }
     ensures { λ r. ⌜ r .0 ≡ bytesTo place ⌝ }
 {
     let used = place.used.0;
@@ -204,7 +204,7 @@ fn seal_at(out: &mut [u8], place: Place)
 
 // Makes room for a record of `k` words: where the current block has none, it is sealed and a new one begun.
 fn make_room(out: &mut [u8], place: Place, k: Words) -> Place
-    requires { ⌜ (place .used .0 ≤ mostRecordWords) × (k .0 ≤ mostRecordWords) × (sealedBytes place ≤ length (now out)) × (sealedBytes place ≤ 1000000) ⌝ }
+    requires { ⌜ (place .used .0 ≤ mostRecordWords) × (k .0 ≤ mostRecordWords) × (sealedBytes place ≤ length (now out)) × (sealedBytes place ≤ placeLimit) ⌝ }
     ensures { λ r. ⌜ RoomMade (now (out .entry)) place (k .0) (now (out .exit)) r ⌝ }
 {
     let start = place.start.0;

@@ -1,4 +1,4 @@
-use mathlib.Core.Path.{_≡_, refl, ap, _∙_}
+use mathlib.Core.Path.{refl}
 use Prim.Native.Nat.{_-_, _≤_}
 use native.Mathlib.Omega.{arith}
 use lib.ListN.{length}
@@ -7,8 +7,8 @@ use Rattle.words.specs.Words.{wordsOf, mostRecordWords}
 use Rattle.words.proofs.Laws.{all-below}
 use Rattle.block.specs.Records.{recordsOf}
 use Rattle.block_steps.proofs.Loops.{Loop, Turn, loop-start, turn, loop-on, loop-end}
-use Rattle.repacking.specs.Places.{roomFor, behind, placeAfter}
-use Rattle.repacking.proofs.Places.{RoomAt, room-at, Counting, counted}
+use Rattle.repacking.specs.Places.{placeAfter}
+use Rattle.repacking.proofs.Places.{room-at, Counting, counted}
 use Rattle.repacking.proofs.count_records.Statement.{statement}
 use Rattle.repacking.proofs.count_records.Tie as tie
 

@@ -1,17 +1,18 @@
-use mathlib.Core.Path.{_≡_, ap, _∙_}
+use mathlib.Core.Path.{ap}
 use Prim.Native.Nat.{_+_, _≤_}
 use native.Mathlib.Omega.{arith}
 use borrow.Author.Needs.{needs}
 use lib.ListN.{length}
 use Rattle.units.specs.Units.{bytesOfWords}
 use Rattle.words.specs.Words.{mostRecordWords}
+use Rattle.repacking.specs.Places.{placeLimit}
 use Rattle.repacking.proofs.Writing.{recordStart, can-seal, room-is, put-room, record-put}
 use Rattle.repacking.proofs.put_record.Statement.{statement}
 use Rattle.repacking.proofs.put_record.Tie as tie
 
 -- the record has room at its place
 room : (c : tie.After-make-room) → let q = c .make-room .result in let k = c .before .before .count .result .0 in
-    (q .used .0 + k ≤ mostRecordWords) × (recordStart q + bytesOfWords k ≤ length (c .make-room .last .0)) × (recordStart q + bytesOfWords k ≤ 1000000)
+    (q .used .0 + k ≤ mostRecordWords) × (recordStart q + bytesOfWords k ≤ length (c .make-room .last .0)) × (recordStart q + bytesOfWords k ≤ placeLimit)
 room c = let pre = c .before .before .before .before .before .pre in room-is (pre .0) (pre .2) (c .before .before .count .ensures) (c .make-room .ensures)
 
 make-room-requires : tie.Need-make-room-requires

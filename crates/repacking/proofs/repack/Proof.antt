@@ -1,12 +1,9 @@
 use mathlib.Core.Path.{sym, ap, _∙_}
-use Prim.Native.Nat.{_≤_}
 use native.Mathlib.Omega.{arith}
 use borrow.Author.Needs.{needs}
 use denote.Ref.{now}
-use lib.ListN.{length}
 use Rattle.words.specs.Words.{Below}
 use Rattle.words.proofs.Laws.{all-below}
-use Rattle.repacking.specs.Blocks.{mostBytes}
 use Rattle.repacking.specs.Cases.{measuredOf}
 use Rattle.repacking.proofs.Outcome.{too-long, within-limit, block-refused, promised}
 use Rattle.repacking.proofs.repack.Statement.{statement}
