@@ -86,7 +86,7 @@ UndoAgrees = (block sheet : List ℕ) → FixesTwo (Undoes block sheet)
 
 -- `repacking::repack`
 abbrev pub RepackAgrees : Type 0
-RepackAgrees = (blocks out : List ℕ) → FixesOne (Repacks blocks out)
+RepackAgrees = (slice out : List ℕ) → FixesOne (Repacks slice out)
 
 -- ---- the calls for C
 
@@ -138,7 +138,7 @@ PrintedBlockAgrees = (text out : List ℕ) → FixesOne (PrintsBlock text out)
 
 -- `printed::print_blocks`
 abbrev pub PrintedBlocksAgree : Type 0
-PrintedBlocksAgree = (blocks out : List ℕ) → FixesOne (PrintsBlocks blocks out)
+PrintedBlocksAgree = (slice out : List ℕ) → FixesOne (PrintsBlocks slice out)
 
 -- a writer that the crates share promises which text it puts at which place
 abbrev pub PutAgrees : Type 0

@@ -21,4 +21,4 @@ BlockWritten = (text out after : List ℕ) (end : ℕ) → PrintsBlock text out 
 
 -- `repack`
 abbrev pub BlocksWritten : Type 0
-BlocksWritten = (blocks out after : List ℕ) (end : ℕ) → PrintsBlocks blocks out end after → take end after ≡ blocksPrinted blocks
+BlocksWritten = (slice out after : List ℕ) (end : ℕ) → PrintsBlocks slice out end after → take end after ≡ blocksPrinted slice

@@ -11,7 +11,7 @@ use Rattle.words.specs.Words.{joined, All, Below, mostRecordWords}
 use Rattle.words.specs.Outcomes.{leaves}
 use Rattle.block.specs.Judging.{Accepted}
 use Rattle.block.specs.Records.{recordsOf}
-use Rattle.repacking.specs.Blocks.{mostBytes, judgeBlock, blocksIn, recordsIn}
+use Rattle.repacking.specs.Blocks.{mostBytes, judgeNext, blocksIn, recordsIn}
 use Rattle.repacking.specs.Rules.{IsSlice}
 use Rattle.repacking.specs.Packing.{Group, repack}
 use Rattle.demands.specs.Demand2.{bytesIn, wrote}
@@ -26,7 +26,7 @@ SlicesExactly = (slice : List ℕ) (blocks : List (List ℕ)) → (blocksIn slic
 abbrev pub BlockByBlock : Type 0
 BlockByBlock =
     (blocks : List (List ℕ)) (rest out : List ℕ) (r : Answer) → All Accepted blocks → 1 ≤ length rest → length (joined blocks ++ rest) ≤ mostBytes →
-    judgeBlock (1 + length blocks) rest ≡ refused r → repack (joined blocks ++ rest) out ≡ leaves r out
+    judgeNext (1 + length blocks) rest ≡ refused r → repack (joined blocks ++ rest) out ≡ leaves r out
 
 -- "50 output too short, last of all, a = bytes needed": a is what a success writes, and any output of that many bytes has room
 abbrev pub BytesNeeded : Type 0

@@ -18,4 +18,4 @@ PrintsBlock text out end after = Printed out (blockPrinted text) after end
 
 -- `print_blocks`: document 02's "repacker"
 abbrev pub PrintsBlocks : List ℕ → List ℕ → ℕ → List ℕ → Type 0
-PrintsBlocks blocks out end after = Printed out (blocksPrinted blocks) after end
+PrintsBlocks slice out end after = Printed out (blocksPrinted slice) after end

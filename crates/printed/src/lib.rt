@@ -13,6 +13,7 @@ ghost use Rattle.block.specs.Judging.{Accepted};
 ghost use Rattle.block.specs.Records.{recordsOf};
 ghost use Rattle.prefix.specs.Table.{prefixOf};
 ghost use Rattle.report.specs.Text.{behind};
+ghost use Rattle.report.specs.Refusal.{longestRefusal};
 ghost use Rattle.printed.specs.Printed.{EndOrRefusal};
 ghost use Rattle.printed.specs.Listing.{signedOf, lettersOf, frontOf, rowOf, rowsOf};
 ghost use Rattle.printed.specs.Promises.{PrintsListing, PrintsLines, PrintsBlock, PrintsBlocks};
@@ -116,9 +117,9 @@ pub fn print_lines(block: &[u8], out: &mut [u8; TEXT_BYTES]) -> Bytes
     }
 }
 
-// Where what was written ends, by the answer to the call that wrote it; of a refusal, which wrote nothing, its line.
+// Gives the end of what a call has written, by its answer; for a refusal, which wrote nothing, puts its line and gives the end of that.
 fn end_or_refusal(told: Answer, out: &mut [u8]) -> Bytes
-    requires { ⌜ 52 ≤ length (now out) ⌝ }
+    requires { ⌜ longestRefusal ≤ length (now out) ⌝ }
     ensures { λ r. ⌜ EndOrRefusal told (now (out .entry)) (now (out .exit)) (r .0) ⌝ }
 {
     if told.n == 0 {
@@ -137,9 +138,9 @@ pub fn print_block(text: &[u8], out: &mut [u8; BLOCK_BYTES]) -> Bytes
 }
 
 // Writes the blocks of a slice packed again, or the line of its refusal.
-pub fn print_blocks(blocks: &[u8], out: &mut [u8; SLICE_BYTES]) -> Bytes
-    ensures { λ r. ⌜ PrintsBlocks (now (blocks .entry)) (now (out .entry)) (r .0) (now (out .exit)) ⌝ }
+pub fn print_blocks(slice: &[u8], out: &mut [u8; SLICE_BYTES]) -> Bytes
+    ensures { λ r. ⌜ PrintsBlocks (now (slice .entry)) (now (out .entry)) (r .0) (now (out .exit)) ⌝ }
 {
-    let told = repacking::numbers(repacking::repack(blocks, out));
+    let told = repacking::numbers(repacking::repack(slice, out));
     end_or_refusal(told, out)
 }

@@ -31,7 +31,7 @@ use Rattle.read_text.specs.Block.{readText, wordsIn, toBlock}
 use Rattle.sheet.specs.Sheets.{sheetOf, sheetWith, entriesOf, entries, opened, started, broken, allZero}
 use Rattle.block_value.specs.Places.{noRecord, stands}
 use Rattle.amending.specs.Amending.{amendable, undoable, onBoth}
-use Rattle.repacking.specs.Blocks.{wrongFirst, judgeStated, judgeBlock, blocksFrom, blocksIn}
+use Rattle.repacking.specs.Blocks.{wrongFirst, judgeStated, judgeNext, walkBlocks, blocksIn}
 use Rattle.repacking.specs.Packing.{packed, groups, repacked, repack}
 use Rattle.refusals.specs.Questions.{AnsweredSo, turned, wordPut, cutTo}
 use Rattle.refusals.specs.Refusals.{statedBlocks, badBlocks, blockTrials, badTexts, textTrials, roomTrials, sheetTrials, amendTrials, undoTrials, badSlices, repackTrials, EveryRefusal}
@@ -39,7 +39,7 @@ use Rattle.refusals.specs.Orders.{everyTwo, sizeOrder, checksumOrder, fr
 
 -- of slices of blocks, by themselves: together with the others they are more than one declaration may compute
 slices : AnsweredSo repackTrials × AnsweredSo repackOrders
-unfolding statedBlocks badSlices repackTrials everyTwo checksumOrder ownOrder startOrder repackOrders turned wordPut cutTo judged wrongSize walk judgeRecord judgeCards judgeContent judgeData judgeCounts inRange wrongTotal underLeast passing wordWithin wordsOf bytesOf xorAll ones onesIn recordsOf cut written framed joined flatten wrongFirst judgeStated judgeBlock blocksFrom blocksIn packed groups repacked repack
+unfolding statedBlocks badSlices repackTrials everyTwo checksumOrder ownOrder startOrder repackOrders turned wordPut cutTo judged wrongSize walk judgeRecord judgeCards judgeContent judgeData judgeCounts inRange wrongTotal underLeast passing wordWithin wordsOf bytesOf xorAll ones onesIn recordsOf cut written framed joined flatten wrongFirst judgeStated judgeNext walkBlocks blocksIn packed groups repacked repack
 slices = (refl, refl)
 
 -- both tables: one equation for each call

@@ -2,9 +2,9 @@
 use libc::STDIN_FILENO;
 use libc::STDOUT_FILENO;
 
-fn put_blocks(blocks: &[u8]) {
+fn put_blocks(slice: &[u8]) {
     let mut packed = [0u8; printed::SLICE_BYTES];
-    let end = printed::print_blocks(blocks, &mut packed).0;
+    let end = printed::print_blocks(slice, &mut packed).0;
     io::write_all(STDOUT_FILENO, &packed[..end]);
 }
 

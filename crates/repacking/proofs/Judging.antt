@@ -15,13 +15,13 @@ use Rattle.block.specs.Judging.{Accepted}
 use Rattle.block.specs.Records.{recordsOf}
 use Rattle.block.specs.Rules.{BlockRecord}
 use Rattle.block.proofs.Exact.{only-good}
-use Rattle.repacking.specs.declared.Place.{Place}
-use Rattle.repacking.specs.Blocks.{judgeBlock, before, blocksFrom, recordsIn, mostBytes}
+use Rattle.repacking.specs.declared.Current.{Current}
+use Rattle.repacking.specs.Blocks.{judgeNext, before, walkBlocks, recordsIn, mostBytes}
 use Rattle.repacking.specs.Packing.{repacked}
-use Rattle.repacking.specs.Places.{placeAt, placeAfter, bytesTo, Countable}
+use Rattle.repacking.specs.Current.{currentAt, currentAfter, bytesTo, bytesNeeded, Countable}
 use Rattle.repacking.proofs.Slices.{FirstIs, first-is, blocks-stop, blocks-next}
 use Rattle.repacking.proofs.Made.{block-records}
-use Rattle.repacking.proofs.Places.{After, after, after-append, repacked-bytes}
+use Rattle.repacking.proofs.Counting.{After, after, after-append, repacked-bytes}
 
 -- what an accepted block has: good records, and the words that its bytes leave for them
 pub record Holds (b : List ℕ) : Type 0 where
@@ -40,11 +40,11 @@ unfolding flatten
 records-snoc [] b = append-nil (recordsOf b)
 records-snoc (c ∷ bs) b = ap (λ l. recordsOf c ++ l) (records-snoc bs b) ∙ sym (append-assoc (recordsOf c) (recordsIn bs) (recordsOf b))
 
--- it has come to a place: the blocks before it passed, and what is judged from there on gives the whole
-pub record Judging (slice : List ℕ) (at number : ℕ) (p : Place) : Type 0 where
+-- it has come so far: the blocks before this place passed, and what is judged from there on gives the whole
+pub record Judging (slice : List ℕ) (at number : ℕ) (p : Current) : Type 0 where
   pub done : List (List ℕ)
-  pub same : blocksFrom 0 1 slice ≡ onward (blocksFrom 0 number (drop at slice)) (λ bs. passed (done ++ bs))
-  pub place : p ≡ placeAfter (placeAt 0 0) (recordsIn done)
+  pub same : walkBlocks 0 1 slice ≡ onward (walkBlocks 0 number (drop at slice)) (λ bs. passed (done ++ bs))
+  pub current : p ≡ currentAfter (currentAt 0 0) (recordsIn done)
   pub each : All BlockRecord (recordsIn done)
   pub used : p .used .0 ≤ mostRecordWords
   pub few : p .start .0 + bytesOfWords (p .used .0) ≤ 2 * at
@@ -55,13 +55,13 @@ onward-onward : (v : Verdict (List (List ℕ))) → v ≡ onward v (λ bs. passe
 onward-onward (passed bs) = refl
 onward-onward (refused r) = refl
 
-pub judging-start : (slice : List ℕ) → Judging slice 0 1 (placeAt 0 0)
-unfolding placeAfter flatten
+pub judging-start : (slice : List ℕ) → Judging slice 0 1 (currentAt 0 0)
+unfolding currentAfter flatten
 judging-start slice =
     record {
       done = [];
-      same = onward-onward (blocksFrom 0 1 slice);
-      place = refl;
+      same = onward-onward (walkBlocks 0 1 slice);
+      current = refl;
       each = tt;
       used = omega arith;
       few = omega arith;
@@ -69,30 +69,26 @@ judging-start slice =
       within = omega arith;
     }
 
--- what is asked: the bytes needed, or the refusal
-abbrev pub needed : List ℕ → Verdict ℕ
-needed slice = onward (blocksFrom 0 1 slice) (λ bs. passed (length (repacked (recordsIn bs))))
-
-module _ {slice : List ℕ} {at number : ℕ} {p : Place} (j : Judging slice at number p) where
+module _ {slice : List ℕ} {at number : ℕ} {p : Current} (j : Judging slice at number p) where
   -- at the end all blocks passed
-  pub all-judged : {size : ℕ} → length slice ≤ at → size ≡ bytesTo p → passed size ≡ needed slice
-  unfolding blocksFrom
+  pub all-judged : {size : ℕ} → length slice ≤ at → size ≡ bytesTo p → passed size ≡ bytesNeeded slice
+  unfolding walkBlocks
   all-judged end is =
       let none : drop at slice ≡ [] = drop-of-length-le slice {i = at} end in
-      let all : blocksFrom 0 1 slice ≡ passed (j .done) = j .same ∙ ap (λ l. onward (blocksFrom 0 number l) (λ bs. passed (j .done ++ bs))) none ∙ ap (λ l. passed l) (append-nil (j .done)) in
-      rw all (ap (λ n. passed n) (is ∙ ap bytesTo (j .place) ∙ repacked-bytes (recordsIn (j .done)) (j .each)))
+      let all : walkBlocks 0 1 slice ≡ passed (j .done) = j .same ∙ ap (λ l. onward (walkBlocks 0 number l) (λ bs. passed (j .done ++ bs))) none ∙ ap (λ l. passed l) (append-nil (j .done)) in
+      rw all (ap (λ n. passed n) (is ∙ ap bytesTo (j .current) ∙ repacked-bytes (recordsIn (j .done)) (j .each)))
 
   -- the next block, which is refused or passes
   module _ {rest : List ℕ} (lent : rest ≡ drop at slice) (here : at < length slice) where
     some-left : 0 < length rest
     some-left = omega (arith, ap length lent, length-drop at slice)
 
-    pub judged-stop : {v : Verdict ℕ} {r : Answer} → v ≡ judgeBlock number rest → v ≡ refused r → refused r ≡ needed slice
+    pub judged-stop : {v : Verdict ℕ} {r : Answer} → v ≡ judgeNext number rest → v ≡ refused r → refused r ≡ bytesNeeded slice
     judged-stop {v} {r} e is =
-        let stop : blocksFrom 0 number (drop at slice) ≡ refused r = ap (blocksFrom 0 number) (sym lent) ∙ blocks-stop number r rest some-left (sym e ∙ is) in
+        let stop : walkBlocks 0 number (drop at slice) ≡ refused r = ap (walkBlocks 0 number) (sym lent) ∙ blocks-stop number r rest some-left (sym e ∙ is) in
         sym (ap (λ v. onward v (λ bs. passed (length (repacked (recordsIn bs))))) (j .same ∙ ap (λ v. onward v (λ bs. passed (j .done ++ bs))) stop))
 
-    module _ {v : Verdict ℕ} {k : ℕ} (e : v ≡ judgeBlock number rest) (is : v ≡ passed k) where
+    module _ {v : Verdict ℕ} {k : ℕ} (e : v ≡ judgeNext number rest) (is : v ≡ passed k) where
       pub first : FirstIs rest k
       first = first-is number k rest (sym e ∙ is)
 
@@ -100,14 +96,14 @@ module _ {slice : List ℕ} {at number : ℕ} {p : Place} (j : Judging slice at 
       onto-done b (passed bs) = ap (λ l. passed l) (sym (append-snoc (j .done) b bs))
       onto-done b (refused r) = refl
 
-      same-on : blocksFrom 0 1 slice ≡ onward (blocksFrom 0 (number + 1) (drop (at + k) slice)) (λ bs. passed (j .done ++ (take k rest ∷ []) ++ bs))
+      same-on : walkBlocks 0 1 slice ≡ onward (walkBlocks 0 (number + 1) (drop (at + k) slice)) (λ bs. passed (j .done ++ (take k rest ∷ []) ++ bs))
       same-on =
           let on = blocks-next number k rest some-left (sym e ∙ is) in
-          let next : blocksFrom 0 (number + 1) (drop k rest) ≡ blocksFrom 0 (number + 1) (drop (at + k) slice) = ap (blocksFrom 0 (number + 1)) (ap (drop k) lent ∙ drop-drop k at slice) in
+          let next : walkBlocks 0 (number + 1) (drop k rest) ≡ walkBlocks 0 (number + 1) (drop (at + k) slice) = ap (walkBlocks 0 (number + 1)) (ap (drop k) lent ∙ drop-drop k at slice) in
           j .same
-          ∙ ap (λ l. onward (blocksFrom 0 number l) (λ bs. passed (j .done ++ bs))) (sym lent)
+          ∙ ap (λ l. onward (walkBlocks 0 number l) (λ bs. passed (j .done ++ bs))) (sym lent)
           ∙ ap (λ v. onward v (λ bs. passed (j .done ++ bs))) on
-          ∙ onto-done (take k rest) (blocksFrom 0 (number + 1) (drop k rest))
+          ∙ onto-done (take k rest) (walkBlocks 0 (number + 1) (drop k rest))
           ∙ ap (λ v. onward v (λ bs. passed (j .done ++ (take k rest ∷ []) ++ bs))) next
 
       -- it is lent, and its records are counted
@@ -121,14 +117,14 @@ module _ {slice : List ℕ} {at number : ℕ} {p : Place} (j : Judging slice at 
         pub countable : Countable p (recordsOf (take k rest))
         countable = record { used = j .used; bytes = omega (arith, j .few, its .most) }
 
-        pub judged-on : {q : Place} → q ≡ placeAfter p (recordsOf (take k rest)) → Judging slice (at + k) (number + 1) q
+        pub judged-on : {q : Current} → q ≡ currentAfter p (recordsOf (take k rest)) → Judging slice (at + k) (number + 1) q
         judged-on {q} put =
             let b = take k rest in
             let a : After p (recordsOf b) q = rw put (after p (recordsOf b) (j .used) (its .each)) in
             record {
               done = j .done ++ (b ∷ []);
               same = same-on;
-              place = put ∙ ap (λ o. placeAfter o (recordsOf b)) (j .place) ∙ after-append (placeAt 0 0) (recordsIn (j .done)) (recordsOf b) ∙ ap (placeAfter (placeAt 0 0)) (sym (records-snoc (j .done) b));
+              current = put ∙ ap (λ o. currentAfter o (recordsOf b)) (j .current) ∙ after-append (currentAt 0 0) (recordsIn (j .done)) (recordsOf b) ∙ ap (currentAfter (currentAt 0 0)) (sym (records-snoc (j .done) b));
               each = rw (records-snoc (j .done) b) (all-append BlockRecord (recordsIn (j .done)) (recordsOf b) (j .each) (its .each));
               used = a .used;
               few = omega (arith, a .most, j .few, words-in);

@@ -20,7 +20,7 @@ use Rattle.words.proofs.Writing.{written-told}
 use Rattle.block.specs.Judging.{judged, judgeWords}
 use Rattle.block.proofs.Size.{SizeRight, right-size}
 use Rattle.block.proofs.Known.{words-rows, words-known}
-use Rattle.repacking.specs.Blocks.{mostBytes, wrongFirst, judgeStated, judgeBlock, blocksFrom, blocksIn, recordsIn}
+use Rattle.repacking.specs.Blocks.{mostBytes, wrongFirst, judgeStated, judgeNext, walkBlocks, blocksIn, recordsIn}
 use Rattle.repacking.specs.Cases.{RepackRow}
 use Rattle.repacking.specs.Packing.{repacked, repack}
 use Rattle.repacking.specs.Rules.{IsSlice}
@@ -64,8 +64,8 @@ stated-known n stated rest hn least most first bytes =
     (λ t. then-known RepackRow (λ a. a < 2 ^ 16) (λ _. Unit {0}) (judged (take size rest)) (λ _. passed size)
     (own-known stated rest (take size rest) refl least most first (ltb-false (length rest) size t) (all-take (λ x. x < 256) size rest bytes)) (λ _ _. tt))
 
-block-known : (n : ℕ) (rest : List ℕ) → n < 2 ^ 16 → Below 256 rest → KnownSlice (judgeBlock n rest)
-unfolding judgeBlock
+block-known : (n : ℕ) (rest : List ℕ) → n < 2 ^ 16 → Below 256 rest → KnownSlice (judgeNext n rest)
+unfolding judgeNext
 block-known n rest hn bytes =
     let stated = word (wordsOf rest) 1 in
     both-ways KnownSlice (eqb (length rest) 1) (refused (answer 51 n 0 0)) _ (told 51 n (omega arith) (omega arith) hn)
@@ -74,13 +74,13 @@ block-known n rest hn bytes =
 
 -- ---- all of them
 
-blocks-known : (skip n : ℕ) (slice : List ℕ) → n + length slice < 2 ^ 16 → Below 256 slice → KnownSlice (blocksFrom skip n slice)
-unfolding blocksFrom
+blocks-known : (skip n : ℕ) (slice : List ℕ) → n + length slice < 2 ^ 16 → Below 256 slice → KnownSlice (walkBlocks skip n slice)
+unfolding walkBlocks
 blocks-known skip n [] h bytes = tt
 blocks-known (suc skip) n (b ∷ bs) h bytes = blocks-known skip n bs (omega arith) (bytes .1)
 blocks-known zero n (b ∷ bs) h bytes =
-    then-known RepackRow (λ _. Unit {0}) (λ _. Unit {0}) (judgeBlock n (b ∷ bs)) _ (block-known n (b ∷ bs) (omega arith) bytes)
-    (λ k _. then-known RepackRow (λ _. Unit {0}) (λ _. Unit {0}) (blocksFrom (k - 1) (n + 1) bs) _ (blocks-known (k - 1) (n + 1) bs (omega arith) (bytes .1)) (λ _ _. tt))
+    then-known RepackRow (λ _. Unit {0}) (λ _. Unit {0}) (judgeNext n (b ∷ bs)) _ (block-known n (b ∷ bs) (omega arith) bytes)
+    (λ k _. then-known RepackRow (λ _. Unit {0}) (λ _. Unit {0}) (walkBlocks (k - 1) (n + 1) bs) _ (blocks-known (k - 1) (n + 1) bs (omega arith) (bytes .1)) (λ _ _. tt))
 
 pub slice-known : (slice : List ℕ) → Below 256 slice → KnownSlice (blocksIn slice)
 unfolding blocksIn

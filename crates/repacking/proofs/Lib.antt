@@ -3,7 +3,7 @@ pub mod Groups
 pub mod Fewest
 pub mod Made
 pub mod Known
-pub mod Places
+pub mod Counting
 pub mod Judging
 pub mod Stores
 pub mod Writing

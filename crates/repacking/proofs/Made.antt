@@ -31,7 +31,7 @@ unfolding flatten
 flatten-all P [] h = tt
 flatten-all P (l ∷ ls) h = all-append P l (flatten ls) (h .0) (flatten-all P ls (h .1))
 
-all-both : {A : Type 0} (P Q : A → Type 0) (l : List A) → All P l → All Q l → All (λ x. P x × Q x) l
+pub all-both : {A : Type 0} (P Q : A → Type 0) (l : List A) → All P l → All Q l → All (λ x. P x × Q x) l
 all-both P Q [] h k = tt
 all-both P Q (x ∷ l) h k = ((h .0, k .0), all-both P Q l (h .1) (k .1))
 

@@ -13,29 +13,24 @@ use Rattle.words.specs.Words.{joined, Below}
 use Rattle.words.specs.Outcomes.{Written, written, leaves}
 use Rattle.words.proofs.Writing.{too-short, all-written}
 use Rattle.repacking.specs.declared.Repacked.{Repacked}
-use Rattle.repacking.specs.Blocks.{mostBytes, blocksFrom, blocksIn, recordsIn}
+use Rattle.repacking.specs.Blocks.{mostBytes, walkBlocks, blocksIn, recordsIn}
 use Rattle.repacking.specs.Packing.{groups, repacked, repack}
-use Rattle.repacking.specs.Places.{Packable}
+use Rattle.repacking.specs.Current.{packedAgain, bytesNeeded, Packable}
 use Rattle.repacking.specs.Cases.{repackedOf}
 use Rattle.repacking.specs.Promises.{Repacks}
-use Rattle.repacking.proofs.Judging.{needed}
 use Rattle.repacking.proofs.Known.{repack-told}
-
--- the bytes of the blocks packed again, or the refusal
-abbrev pub packedAgain : List ℕ → Verdict (List ℕ)
-packedAgain slice = onward (blocksFrom 0 1 slice) (λ bs. passed (repacked (recordsIn bs)))
 
 -- ---- a slice that passes, and needs so many bytes
 
 pub record Needs (slice : List ℕ) (size : ℕ) : Type 0 where
   pub blocks : List (List ℕ)
-  pub found : blocksFrom 0 1 slice ≡ passed blocks
+  pub found : walkBlocks 0 1 slice ≡ passed blocks
   pub count : size ≡ length (repacked (recordsIn blocks))
 
-pub needs-of : (slice : List ℕ) (size : ℕ) → passed size ≡ needed slice → Needs slice size
-needs-of slice size e = by (blocksFrom 0 1 slice) refl e
+pub needs-of : (slice : List ℕ) (size : ℕ) → passed size ≡ bytesNeeded slice → Needs slice size
+needs-of slice size e = by (walkBlocks 0 1 slice) refl e
   where
-    by : (v : Verdict (List (List ℕ))) → blocksFrom 0 1 slice ≡ v → passed size ≡ onward v (λ bs. passed (length (repacked (recordsIn bs)))) → Needs slice size
+    by : (v : Verdict (List (List ℕ))) → walkBlocks 0 1 slice ≡ v → passed size ≡ onward v (λ bs. passed (length (repacked (recordsIn bs)))) → Needs slice size
     by (passed bs) f h = record { blocks = bs; found = f; count = cc }
     by (refused r) f h = absurd (never-passed (sym h))
 
@@ -64,11 +59,11 @@ module _ (slice out : List ℕ) {size : ℕ} (its : Needs slice size) where
   packed-none e = packed-all (omega arith) (no-bytes out again (omega (arith, its .count)))
 
   pub can-pack : length slice ≤ mostBytes → size ≤ length out → (size ≡ 0 → ⊥) → Packable slice out
-  unfolding blocksFrom repacked groups joined flatten
+  unfolding walkBlocks repacked groups joined flatten
   can-pack most room some = record { blocks = its .blocks; found = its .found; some = by slice refl; most = most; room = omega (arith, its .count) }
     where
       empty : slice ≡ [] → size ≡ 0
-      empty e = let none : [] ≡ its .blocks = cc (sym (ap (blocksFrom 0 1) e) ∙ its .found) in its .count ∙ ap (λ bs. length (repacked (recordsIn bs))) (sym none)
+      empty e = let none : [] ≡ its .blocks = cc (sym (ap (walkBlocks 0 1) e) ∙ its .found) in its .count ∙ ap (λ bs. length (repacked (recordsIn bs))) (sym none)
 
       by : (l : List ℕ) → slice ≡ l → 0 < length slice
       by [] e = absurd (some (empty e))
@@ -88,9 +83,9 @@ module _ (slice out : List ℕ) where
     within-limit e = e ∙ simp (le-ltb mostBytes (length slice) h)
 
     -- a block is refused
-    pub block-refused : {r : Answer} → refused r ≡ needed slice → leaves r out ≡ repack slice out
+    pub block-refused : {r : Answer} → refused r ≡ bytesNeeded slice → leaves r out ≡ repack slice out
     unfolding written
-    block-refused {r} e = within-limit (by (blocksFrom 0 1 slice) e)
+    block-refused {r} e = within-limit (by (walkBlocks 0 1 slice) e)
       where
         by : (v : Verdict (List (List ℕ))) → refused r ≡ onward v (λ bs. passed (length (repacked (recordsIn bs)))) → leaves r out ≡ written 50 out (onward v (λ bs. passed (repacked (recordsIn bs))))
         by (passed bs) f = absurd (never-passed f)

@@ -10,26 +10,26 @@ use Rattle.units.specs.Answers.{passed}
 use Rattle.words.specs.Words.{wordsOf, word, joined, All, Below}
 use Rattle.block.specs.Judging.{Accepted}
 use Rattle.block.specs.Records.{recordsOf}
-use Rattle.repacking.specs.declared.Place.{Place}
-use Rattle.repacking.specs.Blocks.{blocksFrom, recordsIn}
+use Rattle.repacking.specs.declared.Current.{Current}
+use Rattle.repacking.specs.Blocks.{walkBlocks, recordsIn}
 use Rattle.repacking.specs.Packing.{packed, groups, repacked}
-use Rattle.repacking.specs.Places.{placeAt, finished, Fitting, PutOn, Packable}
+use Rattle.repacking.specs.Current.{currentAt, finished, Fitting, PutOn, Packable}
 use Rattle.repacking.proofs.Slices.{accepted-stated, same-first, slice-cut}
 use Rattle.repacking.proofs.Groups.{some-packed}
 use Rattle.repacking.proofs.Made.{Good, each-good, records-good, never-longer}
-use Rattle.repacking.proofs.Places.{repacked-ends}
+use Rattle.repacking.proofs.Counting.{repacked-ends}
 use Rattle.repacking.proofs.Writing.{onto-nothing}
 use Rattle.repacking.proofs.Putting.{Putting, putting-start, first-fits, first-put}
 
--- it has come to a place: the blocks that are left there, whose records are still to be put
-pub record Rewriting (slice out₀ out : List ℕ) (at : ℕ) (p : Place) : Type 0 where
+-- it has come so far: the blocks that are left at this place, whose records are still to be put
+pub record Rewriting (slice out₀ out : List ℕ) (at : ℕ) (p : Current) : Type 0 where
   pub all : List (List ℕ)
-  pub found : blocksFrom 0 1 slice ≡ passed all
+  pub found : walkBlocks 0 1 slice ≡ passed all
   pub some : 1 ≤ length (recordsIn all)
   pub rest : List (List ℕ)
   pub stand : drop at slice ≡ joined rest
   pub each : All Accepted rest
-  pub going : Putting out₀ (placeAt 0 0) (recordsIn all) out p (recordsIn rest)
+  pub going : Putting out₀ (currentAt 0 0) (recordsIn all) out p (recordsIn rest)
 
 -- an accepted slice that is not empty has a record
 some-record : (bs : List (List ℕ)) → All Good bs → 0 < length (joined bs) → 1 ≤ length (recordsIn bs)
@@ -37,7 +37,7 @@ unfolding joined flatten
 some-record [] h s = absurd (omega arith)
 some-record (b ∷ bs) h s = omega (arith, h .0 .some, length-append (recordsOf b) (recordsIn bs))
 
-pub rewriting-start : (slice out : List ℕ) → Below 256 slice → Packable slice out → Rewriting slice out out 0 (placeAt 0 0)
+pub rewriting-start : (slice out : List ℕ) → Below 256 slice → Packable slice out → Rewriting slice out out 0 (currentAt 0 0)
 rewriting-start slice out bytes pack =
     let bs = pack .blocks in
     let cut = slice-cut 1 slice bs (pack .found) in
@@ -59,19 +59,19 @@ rewriting-start slice out bytes pack =
     }
 
 -- the next block: the bytes that its first word states
-pub record NextBlock {slice out₀ out : List ℕ} {at : ℕ} {p : Place} (w : Rewriting slice out₀ out at p) (lent : List ℕ) (size : ℕ) : Type 0 where
+pub record NextBlock {slice out₀ out : List ℕ} {at : ℕ} {p : Current} (w : Rewriting slice out₀ out at p) (lent : List ℕ) (size : ℕ) : Type 0 where
   pub least : 36 ≤ size
   pub room : size ≤ length lent
   pub good : Accepted (take size lent)
   pub fits : Fitting out p (recordsOf (take size lent))
-  pub on : {after : List ℕ} {next : Place} → PutOn out p (recordsOf (take size lent)) after next → Rewriting slice out₀ after (at + size) next
+  pub on : {after : List ℕ} {next : Current} → PutOn out p (recordsOf (take size lent)) after next → Rewriting slice out₀ after (at + size) next
 
-module _ {slice out₀ out : List ℕ} {at : ℕ} {p : Place} (w : Rewriting slice out₀ out at p) where
+module _ {slice out₀ out : List ℕ} {at : ℕ} {p : Current} (w : Rewriting slice out₀ out at p) where
   pub next-block : {lent : List ℕ} {size : ℕ} → lent ≡ drop at slice → at < length slice → size ≡ bytesOfWords (word (wordsOf lent) 1) → NextBlock w lent size
   unfolding joined flatten
   next-block {lent} {size} is here says = by (w .rest) (w .stand) (w .each) (w .going)
     where
-      by : (bs : List (List ℕ)) → drop at slice ≡ joined bs → All Accepted bs → Putting out₀ (placeAt 0 0) (recordsIn (w .all)) out p (recordsIn bs) → NextBlock w lent size
+      by : (bs : List (List ℕ)) → drop at slice ≡ joined bs → All Accepted bs → Putting out₀ (currentAt 0 0) (recordsIn (w .all)) out p (recordsIn bs) → NextBlock w lent size
       by [] stand each going = absurd (omega (arith, ap length stand, length-drop at slice))
       by (b ∷ bs) stand each going =
           let s = accepted-stated b (each .0) in
@@ -106,11 +106,11 @@ module _ {slice out₀ out : List ℕ} {at : ℕ} {p : Place} (w : Rewriting sli
       by (b ∷ bs) stand each = omega (arith, ap length stand, accepted-stated b (each .0) .least, length-append b (joined bs))
 
   -- at the end no block is left
-  none-left : length slice ≤ at → Putting out₀ (placeAt 0 0) (recordsIn (w .all)) out p []
+  none-left : length slice ≤ at → Putting out₀ (currentAt 0 0) (recordsIn (w .all)) out p []
   unfolding joined flatten
   none-left h = by (w .rest) (w .stand) (w .each) (w .going)
     where
-      by : (bs : List (List ℕ)) → drop at slice ≡ joined bs → All Accepted bs → Putting out₀ (placeAt 0 0) (recordsIn (w .all)) out p (recordsIn bs) → Putting out₀ (placeAt 0 0) (recordsIn (w .all)) out p []
+      by : (bs : List (List ℕ)) → drop at slice ≡ joined bs → All Accepted bs → Putting out₀ (currentAt 0 0) (recordsIn (w .all)) out p (recordsIn bs) → Putting out₀ (currentAt 0 0) (recordsIn (w .all)) out p []
       by [] stand each going = going
       by (b ∷ bs) stand each going =
           absurd (omega (arith, accepted-stated b (each .0) .least, ap length stand, length-append b (joined bs), length-drop at slice))
@@ -120,7 +120,7 @@ module _ {slice out₀ out : List ℕ} {at : ℕ} {p : Place} (w : Rewriting sli
   last-fits h = none-left h .fits
 
 -- all records packed from the start of the output on
-from-start : (out : List ℕ) (rs : List (List ℕ)) → 1 ≤ length rs → finished out (placeAt 0 0) rs ≡ sets out 0 (repacked rs)
+from-start : (out : List ℕ) (rs : List (List ℕ)) → 1 ≤ length rs → finished out (currentAt 0 0) rs ≡ sets out 0 (repacked rs)
 unfolding finished repacked groups
 from-start out [] some = absurd (omega arith)
 from-start out (r ∷ rs) some =
@@ -128,8 +128,8 @@ from-start out (r ∷ rs) some =
     rw none (ap (sets out 0) (onto-nothing (packed 0 (r ∷ rs)) (some-packed 0 (r ∷ rs))))
 
 -- and then all is written
-pub rewritten : {slice out₀ out : List ℕ} {at : ℕ} {p : Place} (w : Rewriting slice out₀ out at p) → length slice ≤ at → {after : List ℕ} → after ≡ finished out p []
-    → (bs : List (List ℕ)) → blocksFrom 0 1 slice ≡ passed bs → after ≡ sets out₀ 0 (repacked (recordsIn bs))
+pub rewritten : {slice out₀ out : List ℕ} {at : ℕ} {p : Current} (w : Rewriting slice out₀ out at p) → length slice ≤ at → {after : List ℕ} → after ≡ finished out p []
+    → (bs : List (List ℕ)) → walkBlocks 0 1 slice ≡ passed bs → after ≡ sets out₀ 0 (repacked (recordsIn bs))
 rewritten {slice} {out₀} {out} {at} {p} w h last bs e =
     let same : w .all ≡ bs = cc (w .found) in
-    rw (← same) (last ∙ none-left w h .same [] ∙ ap (finished out₀ (placeAt 0 0)) (append-nil (recordsIn (w .all))) ∙ from-start out₀ (recordsIn (w .all)) (w .some))
+    rw (← same) (last ∙ none-left w h .same [] ∙ ap (finished out₀ (currentAt 0 0)) (append-nil (recordsIn (w .all))) ∙ from-start out₀ (recordsIn (w .all)) (w .some))

@@ -18,7 +18,7 @@ use Rattle.words.specs.Words.{wordsOf, word, joined, All, mostWords}
 use Rattle.words.proofs.Laws.{length-wordsOf}
 use Rattle.block.specs.Judging.{judged, Accepted}
 use Rattle.block.proofs.Exact.{frame-ok}
-use Rattle.repacking.specs.Blocks.{mostBytes, wrongFirst, judgeStated, judgeBlock, before, blocksFrom, blocksIn}
+use Rattle.repacking.specs.Blocks.{mostBytes, wrongFirst, judgeStated, judgeNext, before, walkBlocks, blocksIn}
 use Rattle.repacking.specs.Rules.{IsSlice}
 
 -- ---- one block
@@ -52,8 +52,8 @@ stated-is n stated k rest h e =
       good = record { count = j .0; is = ap (λ m. judged (take m rest)) (sym s) ∙ j .1 };
     }
 
-pub first-is : (n k : ℕ) (rest : List ℕ) → judgeBlock n rest ≡ passed k → FirstIs rest k
-unfolding judgeBlock
+pub first-is : (n k : ℕ) (rest : List ℕ) → judgeNext n rest ≡ passed k → FirstIs rest k
+unfolding judgeNext
 first-is n k rest e =
     let stated = word (wordsOf rest) 1 in
     let two = else-passed (eqb (length rest) 1) (answer 51 n 0 0) _ k e in
@@ -84,8 +84,8 @@ same-first (x ∷ []) rest h = absurd (omega arith)
 same-first (x ∷ y ∷ b) rest h = refl
 
 -- so it passes where it stands first
-pub first-passes : (n : ℕ) (b rest : List ℕ) → Accepted b → judgeBlock n (b ++ rest) ≡ passed (length b)
-unfolding judgeBlock judgeStated wrongFirst
+pub first-passes : (n : ℕ) (b rest : List ℕ) → Accepted b → judgeNext n (b ++ rest) ≡ passed (length b)
+unfolding judgeNext judgeStated wrongFirst
 first-passes n b rest a =
     let s = accepted-stated b a in
     let l = length-append b rest in
@@ -104,61 +104,61 @@ first-passes n b rest a =
 -- ---- all of them
 
 -- bytes that are skipped are as good as gone
-blocks-drop : (skip n : ℕ) (slice : List ℕ) → blocksFrom skip n slice ≡ blocksFrom 0 n (drop skip slice)
-unfolding blocksFrom
+blocks-drop : (skip n : ℕ) (slice : List ℕ) → walkBlocks skip n slice ≡ walkBlocks 0 n (drop skip slice)
+unfolding walkBlocks
 blocks-drop skip n [] = rw drop-nil
 blocks-drop zero n (b ∷ bs) = refl
 blocks-drop (suc skip) n (b ∷ bs) = blocks-drop skip n bs
 
 -- a block is refused: so is the slice
-pub blocks-stop : (n : ℕ) (a : Answer) (rest : List ℕ) → 0 < length rest → judgeBlock n rest ≡ refused a → blocksFrom 0 n rest ≡ refused a
-unfolding blocksFrom
+pub blocks-stop : (n : ℕ) (a : Answer) (rest : List ℕ) → 0 < length rest → judgeNext n rest ≡ refused a → walkBlocks 0 n rest ≡ refused a
+unfolding walkBlocks
 blocks-stop n a [] h e = absurd (omega arith)
 blocks-stop n a (b ∷ bs) h e = rw e
 
 -- a block passed: it is in front of those behind it
-pub blocks-next : (n k : ℕ) (rest : List ℕ) → 0 < length rest → judgeBlock n rest ≡ passed k → blocksFrom 0 n rest ≡ before (take k rest) (blocksFrom 0 (n + 1) (drop k rest))
-unfolding blocksFrom
+pub blocks-next : (n k : ℕ) (rest : List ℕ) → 0 < length rest → judgeNext n rest ≡ passed k → walkBlocks 0 n rest ≡ before (take k rest) (walkBlocks 0 (n + 1) (drop k rest))
+unfolding walkBlocks
 blocks-next n k [] h e = absurd (omega arith)
 blocks-next n zero (b ∷ bs) h e = absurd (omega (arith, first-is n zero (b ∷ bs) e .least))
 blocks-next n (suc k) (b ∷ bs) h e = rw (e, sub-one) (ap (before (take (suc k) (b ∷ bs))) (blocks-drop k (n + 1) bs))
 
 -- what passes is accepted blocks, one after the other
-walked : (skip n : ℕ) (slice : List ℕ) (bs : List (List ℕ)) → blocksFrom skip n slice ≡ passed bs → (drop skip slice ≡ joined bs) × All Accepted bs
-unfolding blocksFrom joined
+walked : (skip n : ℕ) (slice : List ℕ) (bs : List (List ℕ)) → walkBlocks skip n slice ≡ passed bs → (drop skip slice ≡ joined bs) × All Accepted bs
+unfolding walkBlocks joined
 walked skip n [] [] e = (drop-nil skip, tt)
 walked skip n [] (c ∷ cs) e = absurd (let z : _≡_ {A = ℕ} 0 1 = cc in omega arith)
 walked (suc skip) n (b ∷ bs) cs e = walked skip n bs cs e
 walked zero n (b ∷ bs) cs e =
-    let first = onward-passed (judgeBlock n (b ∷ bs)) (λ k. before (take k (b ∷ bs)) (blocksFrom (k - 1) (n + 1) bs)) cs e in
+    let first = onward-passed (judgeNext n (b ∷ bs)) (λ k. before (take k (b ∷ bs)) (walkBlocks (k - 1) (n + 1) bs)) cs e in
     by (first .0) (first-is n (first .0) (b ∷ bs) (first .1)) (first .2) (λ j. walked j (n + 1) bs)
   where
-    by : (k : ℕ) → FirstIs (b ∷ bs) k → before (take k (b ∷ bs)) (blocksFrom (k - 1) (n + 1) bs) ≡ passed cs
-        → ((j : ℕ) (ds : List (List ℕ)) → blocksFrom j (n + 1) bs ≡ passed ds → (drop j bs ≡ joined ds) × All Accepted ds) → (b ∷ bs ≡ joined cs) × All Accepted cs
+    by : (k : ℕ) → FirstIs (b ∷ bs) k → before (take k (b ∷ bs)) (walkBlocks (k - 1) (n + 1) bs) ≡ passed cs
+        → ((j : ℕ) (ds : List (List ℕ)) → walkBlocks j (n + 1) bs ≡ passed ds → (drop j bs ≡ joined ds) × All Accepted ds) → (b ∷ bs ≡ joined cs) × All Accepted cs
     by zero f e on = absurd (omega (arith, f .least))
     by (suc j) f e on =
-        let others = onward-passed (blocksFrom j (n + 1) bs) (λ ds. passed (take (suc j) (b ∷ bs) ∷ ds)) cs (rw sub-one at e) in
+        let others = onward-passed (walkBlocks j (n + 1) bs) (λ ds. passed (take (suc j) (b ∷ bs) ∷ ds)) cs (rw sub-one at e) in
         let it = on j (others .0) (others .1) in
         let whole : take (suc j) (b ∷ bs) ∷ others .0 ≡ cs = cc (others .2) in
         rw (← whole) (sym (take-append-drop (suc j) (b ∷ bs)) ∙ ap (λ l. take (suc j) (b ∷ bs) ++ l) (it .0), (f .good, it .1))
 
-pub slice-cut : (n : ℕ) (slice : List ℕ) (bs : List (List ℕ)) → blocksFrom 0 n slice ≡ passed bs → (slice ≡ joined bs) × All Accepted bs
+pub slice-cut : (n : ℕ) (slice : List ℕ) (bs : List (List ℕ)) → walkBlocks 0 n slice ≡ passed bs → (slice ≡ joined bs) × All Accepted bs
 slice-cut n slice bs e = walked 0 n slice bs e
 
 -- a block in front is cut off
-blocks-on : (n : ℕ) (b rest : List ℕ) → Accepted b → blocksFrom 0 n (b ++ rest) ≡ before b (blocksFrom 0 (n + 1) rest)
+blocks-on : (n : ℕ) (b rest : List ℕ) → Accepted b → walkBlocks 0 n (b ++ rest) ≡ before b (walkBlocks 0 (n + 1) rest)
 blocks-on n b rest a =
     let some : 0 < length (b ++ rest) = omega (arith, length-append b rest, accepted-stated b a .least) in
     blocks-next n (length b) (b ++ rest) some (first-passes n b rest a) ∙ rw (take-append-seam b rest, drop-append-seam b rest)
 
 -- accepted blocks, one after the other, pass and are the blocks found
-slice-made : (n : ℕ) (bs : List (List ℕ)) → All Accepted bs → blocksFrom 0 n (joined bs) ≡ passed bs
-unfolding blocksFrom joined
+slice-made : (n : ℕ) (bs : List (List ℕ)) → All Accepted bs → walkBlocks 0 n (joined bs) ≡ passed bs
+unfolding walkBlocks joined
 slice-made n [] h = refl
 slice-made n (b ∷ bs) h = blocks-on n b (joined bs) (h .0) ∙ ap (before b) (slice-made (n + 1) bs (h .1))
 
 -- and a refusal behind them is the slice's
-pub blocks-past : (n : ℕ) (a : Answer) (bs : List (List ℕ)) (rest : List ℕ) → All Accepted bs → blocksFrom 0 (n + length bs) rest ≡ refused a → blocksFrom 0 n (joined bs ++ rest) ≡ refused a
+pub blocks-past : (n : ℕ) (a : Answer) (bs : List (List ℕ)) (rest : List ℕ) → All Accepted bs → walkBlocks 0 (n + length bs) rest ≡ refused a → walkBlocks 0 n (joined bs ++ rest) ≡ refused a
 unfolding joined
 blocks-past n a [] rest h e = rw add-zero at e
 blocks-past n a (b ∷ bs) rest h e =
@@ -169,10 +169,10 @@ blocks-past n a (b ∷ bs) rest h e =
 pub only-slices : (slice : List ℕ) (bs : List (List ℕ)) → blocksIn slice ≡ passed bs → IsSlice slice bs
 unfolding blocksIn
 only-slices slice bs e =
-    let short = else-passed (ltb mostBytes (length slice)) (answer 52 0 0 0) (blocksFrom 0 1 slice) bs e in
+    let short = else-passed (ltb mostBytes (length slice)) (answer 52 0 0 0) (walkBlocks 0 1 slice) bs e in
     let c = slice-cut 1 slice bs (short .1) in
     record { size = ltb-false mostBytes (length slice) (short .0); parts = c .0; each = c .1 }
 
 pub every-slice : (slice : List ℕ) (bs : List (List ℕ)) → IsSlice slice bs → blocksIn slice ≡ passed bs
 unfolding blocksIn
-every-slice slice bs h = simp (le-ltb mostBytes (length slice) (h .size)) (ap (blocksFrom 0 1) (h .parts) ∙ slice-made 1 bs (h .each))
+every-slice slice bs h = simp (le-ltb mostBytes (length slice) (h .size)) (ap (walkBlocks 0 1) (h .parts) ∙ slice-made 1 bs (h .each))

@@ -17,19 +17,19 @@ use Rattle.words.proofs.Sealing.{length-framed}
 use Rattle.words.proofs.Writing.{sets-append}
 use Rattle.words.specs.Writing.{Room, Put}
 use Rattle.block.specs.Rules.{BlockRecord}
-use Rattle.repacking.specs.declared.Place.{Place}
+use Rattle.repacking.specs.declared.Current.{Current}
 use Rattle.repacking.specs.Packing.{Group, onto, packed, blocksOf}
-use Rattle.repacking.specs.Places.{placeLimit, placeAt, sealedBytes, roomFor, behind, placeAfter, standing, finished, Fitting, RoomMade, PutOn}
-use Rattle.repacking.proofs.Places.{room-at}
+use Rattle.repacking.specs.Current.{countLimit, currentAt, sealedBytes, roomFor, withRecord, currentAfter, standing, finished, Fitting, RoomMade, PutOn}
+use Rattle.repacking.proofs.Counting.{room-at}
 use Rattle.repacking.proofs.Stores.{sets-over, drop-sets-add, words-append}
 
 -- ---- what stands in the current block
 
--- the bytes behind a place's start that a record goes behind
-abbrev pub recordStart : Place → ℕ
+-- the bytes before the next record of the current block
+abbrev pub recordStart : Current → ℕ
 recordStart p = p .start .0 + bytesOfWords (p .used .0 + 1)
 
-module _ (out : List ℕ) (p : Place) where
+module _ (out : List ℕ) (p : Current) where
   length-standing : recordStart p ≤ length out → length (standing out p) ≡ p .used .0
   length-standing h =
       let d = drop (p .start .0) out in
@@ -37,7 +37,7 @@ module _ (out : List ℕ) (p : Place) where
 
   -- a record put behind it stands behind it
   pub standing-put : (r : List ℕ) → recordStart p + bytesOfWords (length r) ≤ length out
-      → standing (sets out (recordStart p) (bytesOf r)) (behind p (length r)) ≡ standing out p ++ r
+      → standing (sets out (recordStart p) (bytesOf r)) (withRecord p (length r)) ≡ standing out p ++ r
   standing-put r h =
       let s = p .start .0 in
       let d = drop s out in
@@ -83,10 +83,10 @@ onto-least x (g ∷ gs) = omega (arith, length-append (blockFrom (x ++ joined g)
 
 -- ---- one more record
 
-module _ (out : List ℕ) (p : Place) (r : List ℕ) where
+module _ (out : List ℕ) (p : Current) (r : List ℕ) where
   -- it goes into the current block
   put-here : p .used .0 + length r ≤ mostRecordWords → recordStart p + bytesOfWords (length r) ≤ length out → {after : List ℕ}
-      → after ≡ sets out (recordStart p) (bytesOf r) → (others : List (List ℕ)) → finished after (behind p (length r)) others ≡ finished out p (r ∷ others)
+      → after ≡ sets out (recordStart p) (bytesOf r) → (others : List (List ℕ)) → finished after (withRecord p (length r)) others ≡ finished out p (r ∷ others)
   unfolding finished packed
   put-here fits room put others =
       let s = p .start .0 in
@@ -102,7 +102,7 @@ module _ (out : List ℕ) (p : Place) (r : List ℕ) where
 
   -- or the current block is sealed, and it goes into a new one
   put-new : mostRecordWords < p .used .0 + length r → length r ≤ mostRecordWords → sealedBytes p ≤ length out → {after : List ℕ}
-      → after ≡ sets out (p .start .0) (blockFrom (standing out p)) → (others : List (List ℕ)) → finished after (placeAt (sealedBytes p) 0) (r ∷ others) ≡ finished out p (r ∷ others)
+      → after ≡ sets out (p .start .0) (blockFrom (standing out p)) → (others : List (List ℕ)) → finished after (currentAt (sealedBytes p) 0) (r ∷ others) ≡ finished out p (r ∷ others)
   unfolding finished packed joined
   put-new full fits room {after} put others =
       let s = p .start .0 in
@@ -110,20 +110,20 @@ module _ (out : List ℕ) (p : Place) (r : List ℕ) where
       let gs = packed (length r) others in
       let lc = length-standing out p (omega arith) in
       let end : s + length (blockFrom cur) ≡ sealedBytes p = omega (arith, length-framed cur, lc) in
-      let none : standing after (placeAt (sealedBytes p) 0) ≡ [] = slice-empty 1 (wordsOf (drop (sealedBytes p) after)) in
+      let none : standing after (currentAt (sealedBytes p) 0) ≡ [] = slice-empty 1 (wordsOf (drop (sealedBytes p) after)) in
       let first : sets out s (blocksOf (onto cur ([] ∷ onto r gs))) ≡ sets after (sealedBytes p) (blocksOf (onto r gs)) =
       ap (λ l. sets out s (blockFrom l ++ blocksOf (onto r gs))) (append-nil cur)
       ∙ sets-append out s (blockFrom cur) (blocksOf (onto r gs))
       ∙ rw (end, ← put) refl in
-      let left : finished after (placeAt (sealedBytes p) 0) (r ∷ others) ≡ sets after (sealedBytes p) (blocksOf (onto r gs)) =
+      let left : finished after (currentAt (sealedBytes p) 0) (r ∷ others) ≡ sets after (sealedBytes p) (blocksOf (onto r gs)) =
       rw (none, zero-add, le-leb (length r) mostRecordWords fits) (ap (sets after (sealedBytes p)) (onto-none r gs)) in
       let right : finished out p (r ∷ others) ≡ sets out s (blocksOf (onto cur ([] ∷ onto r gs))) = simp (lt-leb (p .used .0 + length r) mostRecordWords full) in
       left ∙ sym (right ∙ first)
 
 -- ---- a block sealed where it stands
 
--- the part of the output from a place's block on, with the block sealed in it
-pub sealed-there : (out : List ℕ) (p : Place) {part after : List ℕ} → let s = p .start .0 in let d = take (length out - s) (drop s out) in sealedBytes p ≤ length out
+-- the part of the output from the current block on, with the block sealed in it
+pub sealed-there : (out : List ℕ) (p : Current) {part after : List ℕ} → let s = p .start .0 in let d = take (length out - s) (drop s out) in sealedBytes p ≤ length out
     → part ≡ blockFrom (words (wordsOf d) 2 (p .used .0 + 1)) ++ drop (bytesOfWords (p .used .0 + 2)) d
     → after ≡ take s out ++ (part ++ drop (length out - s) (drop s out))
     → after ≡ sets out s (blockFrom (standing out p))
@@ -144,20 +144,20 @@ sealed-there out p {part} {after} room sealed back =
     ∙ sym (sets-eq (blockFrom cur) out s (omega (arith, lc)))
 
 -- what is sealed with no record to come is finished
-pub sealed-finished : (out : List ℕ) (p : Place) {after : List ℕ} → after ≡ sets out (p .start .0) (blockFrom (standing out p)) → after ≡ finished out p []
+pub sealed-finished : (out : List ℕ) (p : Current) {after : List ℕ} → after ≡ sets out (p .start .0) (blockFrom (standing out p)) → after ≡ finished out p []
 unfolding finished packed joined
 sealed-finished out p e = e ∙ ap (sets out (p .start .0)) (sym (append-nil (blockFrom (standing out p))) ∙ ap (λ l. blockFrom l ++ []) (sym (append-nil (standing out p))))
 
--- ---- room for a record, by where the place for it is
+-- ---- room for a record, by the block that it goes into
 
-module _ (out : List ℕ) (p : Place) (k : ℕ) {next : Place} (is : next ≡ roomFor p k) where
+module _ (out : List ℕ) (p : Current) (k : ℕ) {next : Current} (is : next ≡ roomFor p k) where
   -- in the current block: nothing was to be done
   pub room-here : next .start .0 ≡ p .start .0 → RoomMade out p k out next
   unfolding roomFor
   room-here e = by (leb (p .used .0 + k) mostRecordWords) is
     where
-      by : (t : Bool) → next ≡ (if t then p else placeAt (sealedBytes p) 0) → RoomMade out p k out next
-      by true q = record { place = is; size = refl; same = λ r others h. ap (λ o. finished out o (r ∷ others)) q }
+      by : (t : Bool) → next ≡ (if t then p else currentAt (sealedBytes p) 0) → RoomMade out p k out next
+      by true q = record { current = is; size = refl; same = λ r others h. ap (λ o. finished out o (r ∷ others)) q }
       by false q = absurd (omega (arith, e, ap (λ o. o .start .0) q))
 
   -- in a new one: the current one was sealed
@@ -166,44 +166,44 @@ module _ (out : List ℕ) (p : Place) (k : ℕ) {next : Place} (is : next ≡ ro
   unfolding roomFor
   room-behind ne fits room {after} put = by (leb (p .used .0 + k) mostRecordWords) refl is
     where
-      by : (t : Bool) → leb (p .used .0 + k) mostRecordWords ≡ t → next ≡ (if t then p else placeAt (sealedBytes p) 0) → RoomMade out p k after next
+      by : (t : Bool) → leb (p .used .0 + k) mostRecordWords ≡ t → next ≡ (if t then p else currentAt (sealedBytes p) 0) → RoomMade out p k after next
       by true f q = absurd (ne (ap (λ o. o .start .0) q))
       by false f q =
           record {
-            place = is;
+            current = is;
             size = ap length put ∙ length-sets out (p .start .0) (blockFrom (standing out p));
             same = λ r others h. ap (λ o. finished after o (r ∷ others)) q ∙ put-new out p r (omega (arith, leb-false (p .used .0 + k) mostRecordWords f, h)) (omega (arith, h)) room put others;
           }
 
 -- ---- a record put where there is room for it
 
-module _ {out : List ℕ} {p : Place} {r : List ℕ} (good : BlockRecord r) (f : Fitting out p (r ∷ [])) {k : ℕ} (size : k ≡ length r) where
+module _ {out : List ℕ} {p : Current} {r : List ℕ} (good : BlockRecord r) (f : Fitting out p (r ∷ [])) {k : ℕ} (size : k ≡ length r) where
   -- the current block can be sealed
-  pub can-seal : (k ≤ mostRecordWords) × (sealedBytes p ≤ length out) × (sealedBytes p ≤ placeLimit)
-  unfolding placeAfter
+  pub can-seal : (k ≤ mostRecordWords) × (sealedBytes p ≤ length out) × (sealedBytes p ≤ countLimit)
+  unfolding currentAfter
   can-seal = let q = room-at p (length r) (good .most) in (omega (arith, good .most), omega (arith, f .room, q .least), omega (arith, f .few, q .least))
 
-  module _ {mid : List ℕ} {q : Place} (made : RoomMade out p k mid q) where
-    -- and the record has room at its place
-    pub room-is : (q .used .0 + k ≤ mostRecordWords) × (recordStart q + bytesOfWords k ≤ length mid) × (recordStart q + bytesOfWords k ≤ placeLimit)
-    unfolding placeAfter
+  module _ {mid : List ℕ} {q : Current} (made : RoomMade out p k mid q) where
+    -- and the record has room in its block
+    pub room-is : (q .used .0 + k ≤ mostRecordWords) × (recordStart q + bytesOfWords k ≤ length mid) × (recordStart q + bytesOfWords k ≤ countLimit)
+    unfolding currentAfter
     room-is =
         let at = room-at p (length r) (good .most) in
-        let is : q ≡ roomFor p (length r) = made .place ∙ ap (roomFor p) size in
+        let is : q ≡ roomFor p (length r) = made .current ∙ ap (roomFor p) size in
         rw (is, size) (at .used, omega (arith, f .room, made .size), omega (arith, f .few))
 
     module _ {text : List ℕ} (bytes : text ≡ bytesOf r) {at : ℕ} (here : at ≡ recordStart q) where
       pub put-room : Room mid at text
       put-room = omega (arith, room-is .1, ap length bytes, length-bytesOf r, size)
 
-      pub record-put : {end : ℕ} {after : List ℕ} {next : Place} → Put mid at text after end → next ≡ behind q k → PutOn out p (r ∷ []) after next
-      unfolding placeAfter
+      pub record-put : {end : ℕ} {after : List ℕ} {next : Current} → Put mid at text after end → next ≡ withRecord q k → PutOn out p (r ∷ []) after next
+      unfolding currentAfter
       record-put {end} {after} {next} put past =
           record {
-            place = past ∙ ap₂ behind (made .place ∙ ap (roomFor p) size) size;
+            current = past ∙ ap₂ withRecord (made .current ∙ ap (roomFor p) size) size;
             size = ap length (put .bytes) ∙ length-sets mid at text ∙ made .size;
             same = λ others.
-                ap (λ o. finished after o others) (past ∙ ap (behind q) size)
+                ap (λ o. finished after o others) (past ∙ ap (withRecord q) size)
                 ∙ put-here mid q r (omega (arith, room-is .0, size)) (omega (arith, room-is .1, size)) (put .bytes ∙ ap₂ (sets mid) here bytes) others
                 ∙ made .same r others (sym size);
           }

@@ -19,33 +19,33 @@ mostBytes = 64000
 unfoldable pub wrongFirst : ℕ → Bool
 wrongFirst stated = ltb stated 18 || ltb mostWords stated
 
--- 51 "when the block runs past the slice ... before the block's own refusals, which keep their numbers": block n by the words that it states; its bytes
+-- 51 "when the block runs past the slice ... before the block's own refusals, which keep their numbers": block n by the words that it states; it passes with its size in bytes
 unfoldable pub judgeStated : ℕ → ℕ → List ℕ → Verdict ℕ
 judgeStated n stated rest =
     if ltb (length rest) (bytesOfWords stated) then refused (answer 51 n 0 0)
     else onward (judged (take (bytesOfWords stated) rest)) (λ _. passed (bytesOfWords stated))
 
--- 51 when "only one byte is left"; the first word "is 1, before 51"; then the block that it states
-unfoldable pub judgeBlock : ℕ → List ℕ → Verdict ℕ
-judgeBlock n rest =
+-- 51 when "only one byte is left"; a wrong first word "is 1, before 51"; then the block that it states: block n, the next of what is left
+unfoldable pub judgeNext : ℕ → List ℕ → Verdict ℕ
+judgeNext n rest =
     let stated = word (wordsOf rest) 1 in
     if eqb (length rest) 1 then refused (answer 51 n 0 0)
     else if wrongFirst stated then refused (answer 1 0 0 0)
     else judgeStated n stated rest
 
--- a block in front of those behind it
+-- a block put before those found behind it, unless one of these is refused
 abbrev pub before : List ℕ → Verdict (List (List ℕ)) → Verdict (List (List ℕ))
 before block others = onward others (λ blocks. passed (block ∷ blocks))
 
 -- "block by block": one is judged where it starts and its other bytes are skipped; n is the next one's number
-unfoldable pub blocksFrom : ℕ → ℕ → List ℕ → Verdict (List (List ℕ))
-blocksFrom skip n [] = passed []
-blocksFrom zero n (b ∷ bs) = onward (judgeBlock n (b ∷ bs)) (λ k. before (take k (b ∷ bs)) (blocksFrom (k - 1) (n + 1) bs))
-blocksFrom (suc skip) n (b ∷ bs) = blocksFrom skip n bs
+unfoldable pub walkBlocks : ℕ → ℕ → List ℕ → Verdict (List (List ℕ))
+walkBlocks skip n [] = passed []
+walkBlocks zero n (b ∷ bs) = onward (judgeNext n (b ∷ bs)) (λ k. before (take k (b ∷ bs)) (walkBlocks (k - 1) (n + 1) bs))
+walkBlocks (suc skip) n (b ∷ bs) = walkBlocks skip n bs
 
 -- "52 slice over 64,000 bytes, first of all; then block by block"
 unfoldable pub blocksIn : List ℕ → Verdict (List (List ℕ))
-blocksIn slice = if ltb mostBytes (length slice) then refused (answer 52 0 0 0) else blocksFrom 0 1 slice
+blocksIn slice = if ltb mostBytes (length slice) then refused (answer 52 0 0 0) else walkBlocks 0 1 slice
 
 -- the records of the blocks, "in their order"
 abbrev pub recordsIn : List (List ℕ) → List (List ℕ)

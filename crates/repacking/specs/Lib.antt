@@ -1,6 +1,6 @@
 pub mod Blocks
 pub mod Packing
-pub mod Places
+pub mod Current
 pub mod Cases
 pub mod Rules
 pub mod Promises

@@ -9,6 +9,6 @@ use Rattle.repacking.specs.Cases.{repackedOf}
 use Rattle.repacking.specs.Packing.{repack}
 
 -- `repack`: "it takes blocks one after the other ... and writes blocks again" into this output, and the output afterwards; the answer's numbers can be packed
-pub record Repacks (blocks out : List ℕ) (r : Repacked) (after : List ℕ) : Type 0 where
-  pub outcome : leaves (repackedOf r) after ≡ repack blocks out
+pub record Repacks (slice out : List ℕ) (r : Repacked) (after : List ℕ) : Type 0 where
+  pub outcome : leaves (repackedOf r) after ≡ repack slice out
   pub packs : Packs (repackedOf r)

@@ -13,16 +13,15 @@ ghost use Rattle.words.specs.Words.{wordsOf, bytesOf, word, mostRecordWords, bl
 ghost use Rattle.block.specs.Judging.{Accepted};
 ghost use Rattle.block.specs.Records.{recordsOf};
 ghost use Rattle.block.specs.Rules.{BlockRecord};
-ghost use Rattle.units.specs.Answers.{passed, onward, fitted};
+ghost use Rattle.units.specs.Answers.{passed, fitted};
 ghost use Rattle.words.specs.Outcomes.{leaves, written};
-ghost use Rattle.repacking.specs.Blocks.{wrongFirst, judgeStated, judgeBlock, blocksFrom, recordsIn, mostBytes};
-ghost use Rattle.repacking.specs.Packing.{repacked};
+ghost use Rattle.repacking.specs.Blocks.{wrongFirst, judgeStated, judgeNext, mostBytes};
 ghost use Rattle.repacking.specs.Promises.{Repacks};
-ghost use Rattle.repacking.specs.Places.{placeLimit, sealedBytes, standing, roomFor, behind, placeAfter, bytesTo, Countable, Fitting, RoomMade, PutOn, Packable, PackedInto};
+ghost use Rattle.repacking.specs.Current.{countLimit, sealedBytes, standing, roomFor, withRecord, currentAfter, bytesTo, packedAgain, bytesNeeded, Countable, Fitting, RoomMade, PutOn, Packable, PackedInto};
 ghost use Rattle.repacking.specs.Cases.{sliceRefusalOf, measuredOf, repackedOf};
 
 // The most bytes of blocks that are repacked at a time.
-pub const MOST_BYTES: usize = 64000;
+const MOST_BYTES: usize = 64000;
 
 // Why a slice of blocks is refused: it is too long, block n runs past it, or a block's own refusal.
 pub enum SliceRefusal {
@@ -44,7 +43,7 @@ enum Measured {
     Wrong(SliceRefusal),
 }
 
-// The words that the first block of what is left says it has.
+// The words that the next block says it has, the first of what is left of a slice.
 fn stated_words(rest: &[u8]) -> Words
     requires { ⌜ 2 ≤ length (now rest) ⌝ }
     ensures { λ r. ⌜ (r .0 ≡ word (wordsOf (now (rest .entry))) 1) × (r .0 < 65536) ⌝ }
@@ -79,10 +78,10 @@ fn judge_stated(rest: &[u8], number: u16, stated: Words) -> Measured
     }
 }
 
-// Judges block `number`, the first of what is left of a slice.
-fn judge_block(rest: &[u8], number: u16) -> Measured
+// Judges block `number`, the next of what is left of a slice.
+fn judge_next(rest: &[u8], number: u16) -> Measured
     requires { ⌜ 0 < length (now rest) ⌝ }
-    ensures { λ r. ⌜ measuredOf r ≡ judgeBlock number (now (rest .entry)) ⌝ }
+    ensures { λ r. ⌜ measuredOf r ≡ judgeNext number (now (rest .entry)) ⌝ }
 {
     if rest.len() == 1 {
         return Measured::Wrong(SliceRefusal::Cut(number));
@@ -94,149 +93,157 @@ fn judge_block(rest: &[u8], number: u16) -> Measured
     judge_stated(rest, number, stated)
 }
 
-// Where the next record goes: behind `used` record words of the block that begins behind `start` bytes of the output.
-struct Place {
+// The current block: it begins behind `start` bytes of the output, and has `used` record words so far.
+struct Current {
     start: Bytes,
     used: Words,
 }
 
-// The place for a record of `k` words: in the current block if it fits, else in a new one.
-fn room_for(place: Place, k: Words) -> Place
-    requires { ⌜ (place .used .0 ≤ mostRecordWords) × (k .0 ≤ mostRecordWords) × (place .start .0 ≤ placeLimit) ⌝ }
-    ensures { λ r. ⌜ r ≡ roomFor place (k .0) ⌝ }
+// The bytes of the output up to the end of the current block, its checksum among them.
+fn sealed_bytes(current: Current) -> Bytes
+    requires { ⌜ (current .used .0 ≤ mostRecordWords) × (current .start .0 ≤ countLimit) ⌝ }
+    ensures { λ r. ⌜ r .0 ≡ sealedBytes current ⌝ }
 {
-    let used = place.used.0;
+    let start = current.start.0;
+    let all = current.used.0 + 2;
+    let end = start + units::bytes_of_words(Words(all)).0;
+    Bytes(end)
+}
+
+// The block that a record of `k` words goes into: the current one if it fits, else a new one.
+fn room_for(current: Current, k: Words) -> Current
+    requires { ⌜ (current .used .0 ≤ mostRecordWords) × (k .0 ≤ mostRecordWords) × (current .start .0 ≤ countLimit) ⌝ }
+    ensures { λ r. ⌜ r ≡ roomFor current (k .0) ⌝ }
+{
+    let used = current.used.0;
     let size = k.0;
     let filled = used + size;
     if filled <= words::MOST_RECORD_WORDS {
-        return place;
+        return current;
     }
-    let all = used + 2;
-    let next = place.start.0 + units::bytes_of_words(Words(all)).0;
-    Place {
-        start: Bytes(next),
+    Current {
+        start: sealed_bytes(current),
         used: Words(0),
     }
 }
 
-// The place behind a record of `k` words that goes to this one.
-fn past_record(place: Place, k: Words) -> Place
-    requires { ⌜ (place .used .0 ≤ mostRecordWords) × (k .0 ≤ mostRecordWords) ⌝ }
-    ensures { λ r. ⌜ r ≡ behind place (k .0) ⌝ }
+// The current block with a record of `k` words more.
+fn with_record(current: Current, k: Words) -> Current
+    requires { ⌜ (current .used .0 ≤ mostRecordWords) × (k .0 ≤ mostRecordWords) ⌝ }
+    ensures { λ r. ⌜ r ≡ withRecord current (k .0) ⌝ }
 {
-    let start = place.start.0;
-    let used = place.used.0 + k.0;
-    Place {
+    let start = current.start.0;
+    let used = current.used.0 + k.0;
+    Current {
         start: Bytes(start),
         used: Words(used),
     }
 }
 
-// The place behind the records of an accepted block, packed from a place on.
-fn count_records(block: &[u8], place: Place) -> Place
-    requires { ⌜ Accepted (now block) × Countable place (recordsOf (now block)) ⌝ }
-    ensures { λ r. ⌜ r ≡ placeAfter place (recordsOf (now (block .entry))) ⌝ }
+// The current block once the records of an accepted block are packed.
+fn count_records(block: &[u8], current: Current) -> Current
+    requires { ⌜ Accepted (now block) × Countable current (recordsOf (now block)) ⌝ }
+    ensures { λ r. ⌜ r ≡ currentAfter current (recordsOf (now (block .entry))) ⌝ }
 {
     let mut at = 1;
-    let mut to = place;
+    let mut to = current;
     loop {
         let whole = block_steps::record_at(block, Words(at));
         let n = words::count(whole).0;
         if n == 0 {
             return to;
         }
-        to = past_record(room_for(to, Words(n)), Words(n));
+        to = with_record(room_for(to, Words(n)), Words(n));
         at += n;
     }
 }
 
-// The bytes of the blocks up to a place.
-fn bytes_to(place: Place) -> Bytes
-    requires { ⌜ (place .used .0 ≤ mostRecordWords) × (place .start .0 ≤ placeLimit) ⌝ }
-    ensures { λ r. ⌜ r .0 ≡ bytesTo place ⌝ }
+// The bytes of all blocks so far; a current block without a record has none.
+fn bytes_to(current: Current) -> Bytes
+    requires { ⌜ (current .used .0 ≤ mostRecordWords) × (current .start .0 ≤ countLimit) ⌝ }
+    ensures { λ r. ⌜ r .0 ≡ bytesTo current ⌝ }
 {
-    let used = place.used.0;
-    let start = place.start.0;
+    let used = current.used.0;
+    let start = current.start.0;
     if used == 0 {
         return Bytes(start);
     }
-    let all = used + 2;
-    let end = start + units::bytes_of_words(Words(all)).0;
-    Bytes(end)
+    sealed_bytes(current)
 }
 
 // Judges the blocks of a slice, and counts the bytes of their records packed again.
-fn judge_blocks(blocks: &[u8]) -> Measured
-    requires { ⌜ length (now blocks) ≤ mostBytes ⌝ }
-    ensures { λ r. ⌜ measuredOf r ≡ onward (blocksFrom 0 1 (now (blocks .entry))) (λ bs. passed (length (repacked (recordsIn bs)))) ⌝ }
+fn judge_blocks(slice: &[u8]) -> Measured
+    requires { ⌜ length (now slice) ≤ mostBytes ⌝ }
+    ensures { λ r. ⌜ measuredOf r ≡ bytesNeeded (now (slice .entry)) ⌝ }
 {
-    let end = blocks.len();
+    let end = slice.len();
     let mut at = 0;
     let mut number: u16 = 1;
-    let mut place = Place {
+    let mut current = Current {
         start: Bytes(0),
         used: Words(0),
     };
     while at < end {
-        let rest = &blocks[at..];
-        match judge_block(rest, number) {
+        let rest = &slice[at..];
+        match judge_next(rest, number) {
             Measured::Wrong(r) => return Measured::Wrong(r),
             Measured::Size(size) => {
                 let k = size.0;
-                place = count_records(&rest[..k], place);
+                current = count_records(&rest[..k], current);
                 at += k;
                 number += 1;
             }
         }
     }
-    Measured::Size(bytes_to(place))
+    Measured::Size(bytes_to(current))
 }
 
-// Seals the block of a place where it stands in the output.
-fn seal_at(out: &mut [u8], place: Place)
-    requires { ⌜ (place .used .0 ≤ mostRecordWords) × (sealedBytes place ≤ length (now out)) ⌝ }
-    ensures { λ _. ⌜ now (out .exit) ≡ sets (now (out .entry)) (place .start .0) (blockFrom (standing (now (out .entry)) place)) ⌝ }
+// Seals the current block where it stands in the output.
+fn seal_current(out: &mut [u8], current: Current)
+    requires { ⌜ (current .used .0 ≤ mostRecordWords) × (sealedBytes current ≤ length (now out)) ⌝ }
+    ensures { λ _. ⌜ now (out .exit) ≡ sets (now (out .entry)) (current .start .0) (blockFrom (standing (now (out .entry)) current)) ⌝ }
 {
-    let start = place.start.0;
-    let used = place.used.0;
+    let start = current.start.0;
+    let used = current.used.0;
     words::seal(&mut out[start..], Words(used));
 }
 
 // Makes room for a record of `k` words: where the current block has none, it is sealed and a new one begun.
-fn make_room(out: &mut [u8], place: Place, k: Words) -> Place
-    requires { ⌜ (place .used .0 ≤ mostRecordWords) × (k .0 ≤ mostRecordWords) × (sealedBytes place ≤ length (now out)) × (sealedBytes place ≤ placeLimit) ⌝ }
-    ensures { λ r. ⌜ RoomMade (now (out .entry)) place (k .0) (now (out .exit)) r ⌝ }
+fn make_room(out: &mut [u8], current: Current, k: Words) -> Current
+    requires { ⌜ (current .used .0 ≤ mostRecordWords) × (k .0 ≤ mostRecordWords) × (sealedBytes current ≤ length (now out)) × (sealedBytes current ≤ countLimit) ⌝ }
+    ensures { λ r. ⌜ RoomMade (now (out .entry)) current (k .0) (now (out .exit)) r ⌝ }
 {
-    let start = place.start.0;
-    let next = room_for(place, k);
+    let start = current.start.0;
+    let next = room_for(current, k);
+    // It is still the same block.
     if next.start.0 == start {
         return next;
     }
-    seal_at(out, place);
+    seal_current(out, current);
     next
 }
 
 // Puts a record behind those that stand in the output.
-fn put_record(whole: &[u8], out: &mut [u8], place: Place) -> Place
-    requires { ⌜ BlockRecord (wordsOf (now whole)) × (now whole ≡ bytesOf (wordsOf (now whole))) × Fitting (now out) place (wordsOf (now whole) ∷ []) ⌝ }
-    ensures { λ r. ⌜ PutOn (now (out .entry)) place (wordsOf (now (whole .entry)) ∷ []) (now (out .exit)) r ⌝ }
+fn put_record(whole: &[u8], out: &mut [u8], current: Current) -> Current
+    requires { ⌜ BlockRecord (wordsOf (now whole)) × (now whole ≡ bytesOf (wordsOf (now whole))) × Fitting (now out) current (wordsOf (now whole) ∷ []) ⌝ }
+    ensures { λ r. ⌜ PutOn (now (out .entry)) current (wordsOf (now (whole .entry)) ∷ []) (now (out .exit)) r ⌝ }
 {
     let k = words::count(whole);
-    let room = make_room(out, place, k);
+    let room = make_room(out, current, k);
     let start = room.start.0;
     let before = room.used.0 + 1;
     let at = start + units::bytes_of_words(Words(before)).0;
     words::write_bytes(whole, out, Bytes(at));
-    past_record(room, k)
+    with_record(room, k)
 }
 
 // Puts the records of an accepted block behind those that stand in the output.
-fn put_records(block: &[u8], out: &mut [u8], place: Place) -> Place
-    requires { ⌜ Accepted (now block) × Fitting (now out) place (recordsOf (now block)) ⌝ }
-    ensures { λ r. ⌜ PutOn (now (out .entry)) place (recordsOf (now (block .entry))) (now (out .exit)) r ⌝ }
+fn put_records(block: &[u8], out: &mut [u8], current: Current) -> Current
+    requires { ⌜ Accepted (now block) × Fitting (now out) current (recordsOf (now block)) ⌝ }
+    ensures { λ r. ⌜ PutOn (now (out .entry)) current (recordsOf (now (block .entry))) (now (out .exit)) r ⌝ }
 {
     let mut at = 1;
-    let mut to = place;
+    let mut to = current;
     loop {
         let whole = block_steps::record_at(block, Words(at));
         let n = words::count(whole).0;
@@ -249,51 +256,52 @@ fn put_records(block: &[u8], out: &mut [u8], place: Place) -> Place
 }
 
 // Writes the blocks of an accepted slice again, packed.
-fn write_blocks(blocks: &[u8], out: &mut [u8])
-    requires { ⌜ Packable (now blocks) (now out) ⌝ }
-    ensures { λ _. ⌜ PackedInto (now (blocks .entry)) (now (out .entry)) (now (out .exit)) ⌝ }
+fn write_blocks(slice: &[u8], out: &mut [u8])
+    requires { ⌜ Packable (now slice) (now out) ⌝ }
+    ensures { λ _. ⌜ PackedInto (now (slice .entry)) (now (out .entry)) (now (out .exit)) ⌝ }
 {
-    let all = blocks.len();
+    let total = slice.len();
     let mut at = 0;
-    let mut place = Place {
+    let mut current = Current {
         start: Bytes(0),
         used: Words(0),
     };
-    while at < all {
-        let rest = &blocks[at..];
+    while at < total {
+        let rest = &slice[at..];
         let size = units::bytes_of_words(stated_words(rest)).0;
-        place = put_records(&rest[..size], out, place);
+        current = put_records(&rest[..size], out, current);
         at += size;
     }
-    seal_at(out, place);
+    seal_current(out, current);
 }
 
 // Writes the blocks of an accepted slice again, if the output has room for the bytes needed.
-fn write_packed(blocks: &[u8], out: &mut [u8], needed: Bytes) -> Repacked
-    requires { ⌜ (passed (needed .0) ≡ onward (blocksFrom 0 1 (now blocks)) (λ bs. passed (length (repacked (recordsIn bs))))) × (length (now blocks) ≤ mostBytes) ⌝ }
-    ensures { λ r. ⌜ leaves (repackedOf r) (now (out .exit)) ≡ written 50 (now (out .entry)) (onward (blocksFrom 0 1 (now (blocks .entry))) (λ bs. passed (repacked (recordsIn bs)))) ⌝ }
+fn write_packed(slice: &[u8], out: &mut [u8], needed: Bytes) -> Repacked
+    requires { ⌜ (passed (needed .0) ≡ bytesNeeded (now slice)) × (length (now slice) ≤ mostBytes) ⌝ }
+    ensures { λ r. ⌜ leaves (repackedOf r) (now (out .exit)) ≡ written 50 (now (out .entry)) (packedAgain (now (slice .entry))) ⌝ }
 {
     let bytes = needed.0;
     if out.len() < bytes {
         return Repacked::Short(needed);
     }
+    // No record, so no block to seal.
     if bytes == 0 {
         return Repacked::Blocks(needed);
     }
-    write_blocks(blocks, out);
+    write_blocks(slice, out);
     Repacked::Blocks(needed)
 }
 
 // Packs blocks that stand one after the other again: a record goes into the current block if it fits, else into a new one.
-pub fn repack(blocks: &[u8], out: &mut [u8]) -> Repacked
-    ensures { λ r. ⌜ Repacks (now (blocks .entry)) (now (out .entry)) r (now (out .exit)) ⌝ }
+pub fn repack(slice: &[u8], out: &mut [u8]) -> Repacked
+    ensures { λ r. ⌜ Repacks (now (slice .entry)) (now (out .entry)) r (now (out .exit)) ⌝ }
 {
-    if MOST_BYTES < blocks.len() {
+    if MOST_BYTES < slice.len() {
         return Repacked::Refused(SliceRefusal::Long);
     }
-    match judge_blocks(blocks) {
+    match judge_blocks(slice) {
         Measured::Wrong(r) => Repacked::Refused(r),
-        Measured::Size(needed) => write_packed(blocks, out, needed),
+        Measured::Size(needed) => write_packed(slice, out, needed),
     }
 }
 

@@ -10,7 +10,7 @@ use Rattle.units.specs.declared.Answer.{Answer}
 use Rattle.units.specs.Answers.{Verdict, passed, refused}
 use Rattle.report.specs.Text.{bytesFrom, text, behind, lineOf}
 use Rattle.report.specs.Decimal.{decimalOf, spaced}
-use Rattle.report.specs.Refusal.{refusalLine, orRefusal}
+use Rattle.report.specs.Refusal.{refusalLine, longestRefusal, orRefusal}
 use Rattle.report.proofs.Digits.{most-digits}
 
 -- the next number, and the others
@@ -38,7 +38,7 @@ unfolding spaced
 spaced-most [] = omega arith
 spaced-most (n ∷ ns) = omega (arith, length-append (decimalOf n) (spaced ns), most-digits n, spaced-most ns)
 
-pub refusal-most : (r : Answer) → length (refusalLine r) ≤ 52
+pub refusal-most : (r : Answer) → length (refusalLine r) ≤ longestRefusal
 unfolding bytesFrom
 refusal-most r =
     omega (
@@ -50,6 +50,6 @@ refusal-most r =
     )
 
 -- where what is made of what passed is no longer than k, nothing longer is printed
-pub printed-most : {A : Type 0} (f : A → List ℕ) (k : ℕ) → 52 ≤ k → (v : Verdict A) → ((x : A) → v ≡ passed x → length (f x) ≤ k) → length (orRefusal f v) ≤ k
+pub printed-most : {A : Type 0} (f : A → List ℕ) (k : ℕ) → longestRefusal ≤ k → (v : Verdict A) → ((x : A) → v ≡ passed x → length (f x) ≤ k) → length (orRefusal f v) ≤ k
 printed-most f k h (passed x) most = most x refl
 printed-most f k h (refused r) most = omega (arith, refusal-most r)

@@ -10,6 +10,10 @@ use Rattle.report.specs.Decimal.{decimalOf}
 unfoldable pub refusalLine : Answer → List ℕ
 refusalLine r = lineOf (text "refused" ∷ decimalOf (r .n) ∷ decimalOf (r .a) ∷ decimalOf (r .b) ∷ decimalOf (r .c) ∷ [])
 
+-- its bytes, at most
+abbrev pub longestRefusal : ℕ
+longestRefusal = 52
+
 -- "For a refusal it prints only one line": what a program makes of what passed, or that line
 abbrev pub orRefusal : {A : Type 0} → (A → List ℕ) → Verdict A → List ℕ
 orRefusal f (passed x) = f x

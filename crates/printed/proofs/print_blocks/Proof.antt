@@ -13,13 +13,13 @@ use Rattle.printed.proofs.print_blocks.Tie as tie
 
 -- the four numbers and the buffer are the call's
 told : (c : tie.After-numbers) → let a = c .before .before .before .before .args in
-    leaves (c .numbers .result) (c .before .repack .last .1 .0) ≡ repack (now (a .blocks)) (now (a .out))
+    leaves (c .numbers .result) (c .before .repack .last .1 .0) ≡ repack (now (a .slice)) (now (a .out))
 told c = let t = c .before .repack .ensures in
     ap (λ r. leaves r (c .before .repack .last .1 .0)) (c .numbers .ensures .0 ∙ fitted-is _ (t .packs .a-fits) (t .packs .b-fits)) ∙ t .outcome
 
 returns : tie.Need-returns
 unfolding repack
-returns c = let n = c .before .before in let k = n .before .before .before in let b = now (k .before .args .blocks) in
+returns c = let n = c .before .before in let k = n .before .before .before in let b = now (k .before .args .slice) in
     let below = all-below 256 b (λ i. omega (arith, k .shared-slice-known .given i)) in
     ended (λ bs. repacked (recordsIn bs)) 50 _ (c .end-or-refusal .ensures) (blocksIn b) (omega (arith, blocks-bound b below, n .before .before .repack-arg .given .0 .1)) (slice-row b below) (told n)
 

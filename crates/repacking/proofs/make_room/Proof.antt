@@ -9,7 +9,7 @@ returns c = room-here _ _ _ (c .before .before .room-for .ensures) (c .if1 .take
 
 returns-2 : tie.Need-returns-2
 returns-2 c = let e = c .before .before .before .before in let f = e .before .before in let s = f .before .before in
-    room-behind _ _ _ (f .room-for .ensures) (e .if1 .left) (s .pre .1) (s .pre .2) (c .before .before .seal-at .ensures)
+    room-behind _ _ _ (f .room-for .ensures) (e .if1 .left) (s .pre .1) (s .pre .2) (c .before .before .seal-current .ensures)
 
 pub make-room-spec : {M : Type 1} → statement M
 make-room-spec =

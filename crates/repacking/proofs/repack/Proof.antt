@@ -10,8 +10,8 @@ use Rattle.repacking.proofs.repack.Statement.{statement}
 use Rattle.repacking.proofs.repack.Tie as tie
 
 -- a lent slice has bytes
-bytes : (c : tie.After-shared-slice-known) → Below 256 (now (c .before .args .blocks))
-bytes c = all-below 256 (now (c .before .args .blocks)) (λ i. omega (arith, c .shared-slice-known .given i))
+bytes : (c : tie.After-shared-slice-known) → Below 256 (now (c .before .args .slice))
+bytes c = all-below 256 (now (c .before .args .slice)) (λ i. omega (arith, c .shared-slice-known .given i))
 
 returns : tie.Need-returns
 returns c = promised _ _ (bytes (c .before .before)) (too-long _ _ (omega (arith, c .if1 .taken)))

@@ -6,8 +6,8 @@ use Rattle.repacking.proofs.write_packed.Statement.{statement}
 use Rattle.repacking.proofs.write_packed.Tie as tie
 
 -- what the slice needs, as it was found
-its : (c : tie.Start) → Needs (now (c .args .blocks)) (c .args .needed .0)
-its c = needs-of (now (c .args .blocks)) (c .args .needed .0) (c .pre .0)
+its : (c : tie.Start) → Needs (now (c .args .slice)) (c .args .needed .0)
+its c = needs-of (now (c .args .slice)) (c .args .needed .0) (c .pre .0)
 
 returns : tie.Need-returns
 returns c = packed-short _ _ (its (c .before .before .before)) (omega (arith, c .if1 .taken))
