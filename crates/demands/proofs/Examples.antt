@@ -1,5 +1,6 @@
 -- The rows of the paper's examples are worked.
 use mathlib.Core.Path.{refl}
+use mathlib.Core.List.{flatten}
 use lib.Count.{ones, onesIn}
 use Rattle.words.specs.Words.{wordsOf, bytesOf, xorAll, joined, framed}
 use Rattle.counts.specs.Counts.{underLeast, inRange}
@@ -27,7 +28,9 @@ use Rattle.record.specs.Values.{isValue}
 use Rattle.sheet.specs.Sheets.{sheetOf, sheetWith, entriesOf, entries, opened, broken, allZero}
 use Rattle.block_value.specs.Places.{noRecord, withValue, stands}
 use Rattle.amending.specs.Amending.{amendable, undoable, onBoth}
-use Rattle.demands.specs.Examples.{blockK, blockLeast, paperRows, PaperRows, prefixRows, PrefixRows, listingRows, ListingRows, readRows, ReadRows, writtenRows, WrittenRows}
+use Rattle.repacking.specs.Blocks.{wrongFirst, judgeStated, judgeNext, walkBlocks, blocksIn}
+use Rattle.repacking.specs.Packing.{packed, groups, repacked, repack}
+use Rattle.demands.specs.Examples.{blockK, blockLeast, paperRows, PaperRows, prefixRows, PrefixRows, listingRows, ListingRows, RepackedK, readRows, ReadRows, writtenRows, WrittenRows}
 
 pub paper-rows : PaperRows
 unfolding paperRows blockK blockLeast judged wrongSize walk judgeRecord judgeCards judgeContent judgeData judgeCounts inRange wrongTotal underLeast passing wordWithin wordsOf bytesOf xorAll ones onesIn recordsOf cut toLines written textOf ended linesOf laid plan part times fieldsOf fieldOf decimal lineCount framed joined sheetOf sheetWith entriesOf entries opened broken allZero isValue noRecord withValue stands amendable undoable onBoth number readField columns bytesFrom
@@ -40,6 +43,10 @@ prefix-rows = refl
 pub listing-rows : ListingRows
 unfolding listingRows blockK wordsOf bytesOf xorAll underLeast judgeCounts judgeData judgeRecord wrongSize walk judged cut recordsOf lineCount beside table bytesFrom behind lineOf decimal decimalOf signedOf rowOf rowsOf refusalLine inRange
 listing-rows = refl
+
+pub repacked-k : RepackedK
+unfolding blockK judged wrongSize walk judgeRecord judgeData judgeCounts inRange underLeast wordsOf bytesOf xorAll recordsOf cut written framed joined flatten wrongFirst judgeStated judgeNext walkBlocks blocksIn packed groups repacked repack
+repacked-k = refl
 
 pub read-rows : ReadRows
 unfolding readRows number readField columns bytesFrom

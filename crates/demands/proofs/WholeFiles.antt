@@ -7,22 +7,27 @@ use native.Mathlib.Omega.{arith}
 use borrow.Author.Tests.{lt-ltb, le-ltb}
 use lib.ListN.{length, length-map}
 use Rattle.units.specs.Answers.{answer, Verdict, passed, refused, onward}
-use Rattle.words.specs.Words.{joined, All, Below, mostRecordWords}
+use Rattle.words.specs.Words.{wordsOf, framed, joined, All, Below, mostRecordWords}
 use Rattle.words.specs.Outcomes.{Written, written, leaves}
+use Rattle.words.proofs.Laws.{words-below, joined-append}
+use Rattle.words.proofs.Lists.{all-append, all-parts, all-mapped}
+use Rattle.words.proofs.Sealing.{framed-below}
 use Rattle.words.proofs.Writing.{written-either}
+use Rattle.block.specs.Judging.{Accepted}
 use Rattle.block.specs.Records.{recordsOf}
-use Rattle.block.specs.Rules.{blockOf, BlockRecord}
+use Rattle.block.specs.Rules.{blockOf, BlockRecord, IsBlock}
+use Rattle.block.proofs.Exact.{words-are}
 use Rattle.repacking.specs.Blocks.{mostBytes, blocksIn, recordsIn}
 use Rattle.repacking.specs.Cases.{RepackRow}
 use Rattle.repacking.specs.Rules.{IsSlice}
-use Rattle.repacking.specs.Packing.{groups, repacked, repack}
+use Rattle.repacking.specs.Packing.{Group, groups, repacked, repack}
 use Rattle.repacking.proofs.Slices.{blocks-stop, blocks-past, only-slices, every-slice}
 use Rattle.repacking.proofs.Groups.{groups-join, new-late}
 use Rattle.repacking.proofs.Fewest.{fewest}
-use Rattle.repacking.proofs.Made.{Whole, each-good, records-good, new-groups, groups-whole, made-accepted, made-groups}
+use Rattle.repacking.proofs.Made.{Good, Whole, all-both, each-good, records-good, new-groups, groups-whole, made-accepted, made-groups}
 use Rattle.repacking.proofs.Known.{KnownSlice, slice-known, repacked-bound}
 use Rattle.demands.specs.Demand2.{bytesIn, wrote}
-use Rattle.demands.specs.WholeFiles.{SlicesExactly, BlockByBlock, BytesNeeded, EmptySlice, Repacking, BlocksAgain, SameRecords, FewestBlocks, FitsElseNew, RepackedTwice, NeverLonger}
+use Rattle.demands.specs.WholeFiles.{SlicesExactly, BlockByBlock, BytesNeeded, EmptySlice, Repacking, BlocksAgain, StartsAnew, SameRecords, FewestBlocks, FitsElseNew, RepackedTwice, NeverLonger}
 use Rattle.demands.proofs.Demand2.{bytes-in, with-room}
 
 pub slices-exactly : SlicesExactly
@@ -133,6 +138,37 @@ blocks-again slice out bytes success =
       (b .0, again (b .0), record { bytes = bytes; success = success; given = b .1; made = rw is (made-slice slice (b .0) bytes (b .1)) }),
     )
 
+-- ---- bytes
+
+-- a good block's record words are words
+block-words : (b : List ℕ) (rs : List (List ℕ)) → Below 256 b → IsBlock b rs → Below 65536 (joined rs)
+unfolding framed
+block-words b rs bytes g = all-parts (λ w. w < 65536) (joined rs) _ (rw (words-are b rs g) at (words-below b bytes) .1) .0
+
+-- so are those of all blocks of a slice
+slice-words : (bs : List (List ℕ)) → Below 256 (joined bs) → All Good bs → Below 65536 (joined (recordsIn bs))
+unfolding joined flatten
+slice-words [] bytes good = tt
+slice-words (b ∷ bs) bytes good =
+    let p = all-parts (λ x. x < 256) b (joined bs) bytes in
+    rw (joined-append (recordsOf b) (recordsIn bs))
+    (all-append (λ w. w < 65536) (joined (recordsOf b)) (joined (recordsIn bs)) (block-words b (recordsOf b) (p .0) (good .0)) (slice-words bs (p .1) (good .1)))
+
+-- and in whatever groups they stand, their blocks are bytes
+groups-bytes : (gs : List Group) → Below 65536 (joined (flatten gs)) → All Whole gs → All (λ g. Below 256 (blockOf g)) gs
+unfolding joined flatten
+groups-bytes [] below whole = tt
+groups-bytes (g ∷ gs) below whole =
+    let p = all-parts (λ w. w < 65536) (joined g) (joined (flatten gs)) (rw (joined-append g (flatten gs)) at below) in
+    (framed-below (joined g) (whole .0 .most) (p .0), groups-bytes gs (p .1) (whole .1))
+
+again-bytes : (slice : List ℕ) (bs : List (List ℕ)) → Below 256 slice → IsSlice slice bs → All (λ b. Below 256 b) (again bs)
+unfolding again
+again-bytes slice bs bytes given =
+    let below : Below 256 (joined bs) = rw (given .parts) at bytes in
+    let words = slice-words bs below (each-good bs below (given .each)) in
+    all-mapped (λ b. Below 256 b) blockOf (groups (recordsIn bs)) (groups-bytes (groups (recordsIn bs)) (rw groups-join words) (groups-are slice bs bytes given))
+
 -- the result of a repacking
 module _ {slice out : List ℕ} {blocks result : List (List ℕ)} (p : Repacking slice out blocks result) where
   result-again : result ≡ again blocks
@@ -140,6 +176,10 @@ module _ {slice out : List ℕ} {blocks result : List (List ℕ)} (p : Repacking
 
   result-groups : map recordsOf result ≡ groups (recordsIn blocks)
   result-groups = ap (map recordsOf) result-again ∙ again-groups slice blocks (p .bytes) (p .given)
+
+pub starts-anew : StartsAnew
+starts-anew slice out blocks result p =
+    all-both (λ b. Below 256 b) Accepted result (rw (result-again p) (again-bytes slice blocks (p .bytes) (p .given))) (p .made .each)
 
 pub same-records : SameRecords
 same-records slice out blocks result p =

@@ -7,7 +7,8 @@ use lib.ListN.{length, getD, replicate}
 use lib.Seq.{slice}
 use Rattle.units.specs.declared.Answer.{Answer}
 use Rattle.units.specs.Answers.{answer, Verdict, passed, refused}
-use Rattle.words.specs.Words.{bytesOf}
+use Rattle.words.specs.Words.{bytesOf, words}
+use Rattle.words.specs.Outcomes.{leaves}
 use Rattle.block.specs.Judging.{judged}
 use Rattle.block.specs.Records.{recordsOf}
 use Rattle.write_lines.specs.Lines.{linesOf}
@@ -18,6 +19,7 @@ use Rattle.report.specs.Text.{text}
 use Rattle.prefix.specs.Table.{letters, prefixOf}
 use Rattle.sheet.specs.Sheets.{version1, sheetOf}
 use Rattle.block_value.specs.Places.{recordIn}
+use Rattle.repacking.specs.Packing.{repack}
 use Rattle.cedar.specs.Calls.{judgeAnswer}
 use Rattle.printed.specs.Listing.{listingOf}
 use Rattle.demands.specs.Demand3.{Call, amends, undoes, doneAll, leftBy, fresh}
@@ -148,6 +150,12 @@ listingRows = (blockK 2 900 33020, "1 2 1002 24 6 30 MLH") ∷ (blockK 1 900 330
 -- the rows are what is printed, one line each
 abbrev pub ListingRows : Type 0
 ListingRows = map (λ e. listingOf (bytesOf (e .0))) listingRows ≡ map (λ e. text (e .1) ++ (10 ∷ [])) listingRows
+
+-- document 02, request 1: the records of K and K "into the current block", 50 words whose checksum is 50, since equal words cancel out; the bytes past them stay
+abbrev pub RepackedK : Type 0
+RepackedK =
+    let r = words (blockK 2 900 33020) 2 25 in
+    repack (bytesK ++ bytesK) (replicate 104 7) ≡ leaves (answer 0 100 0 0) (bytesOf (50 ∷ r ++ r ++ 50 ∷ []) ++ replicate 4 7)
 
 -- the field "    -0" is 0; "A blank field is refused"
 unfoldable pub readRows : List (String × Verdict ℕ)

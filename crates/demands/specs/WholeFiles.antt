@@ -1,5 +1,4 @@
 -- Document 02, request 1, "Whole files": what repacking keeps, and that no other packing has fewer blocks.
--- Each block of the result is one that the judge accepts, so that demand 3 speaks of it from an empty sheet on, as of any other.
 use mathlib.Core.Logic.{_↔_}
 use mathlib.Core.Path.{_≡_}
 use mathlib.Core.List.{List, [], _∷_, _++_, flatten}
@@ -47,11 +46,16 @@ pub record Repacking (slice out : List ℕ) (blocks result : List (List ℕ)) : 
   pub given : IsSlice slice blocks
   pub made : IsSlice (bytesIn (repack slice out)) result
 
--- "it takes blocks ... and writes blocks again": of each success, where all bytes that it says it has written are there
+-- "it takes blocks ... and writes blocks again": each success is of accepted blocks, and has written accepted blocks, as many bytes as it says
 abbrev pub BlocksAgain : Type 0
 BlocksAgain =
     (slice out : List ℕ) → Below 256 slice → let w = repack slice out in w .answer .n ≡ 0 →
     (length (bytesIn w) ≡ w .answer .a) × ((blocks result : List (List ℕ)) × Repacking slice out blocks result)
+
+-- "Each repacked block starts with an empty sheet; demand 3 still speaks of one block": each is bytes that the judge accepts, which is what demand 3 asks
+abbrev pub StartsAnew : Type 0
+StartsAnew =
+    (slice out : List ℕ) (blocks result : List (List ℕ)) → Repacking slice out blocks result → All (λ b. Below 256 b × Accepted b) result
 
 -- "The record list and the total of record words are the same before and after"
 abbrev pub SameRecords : Type 0

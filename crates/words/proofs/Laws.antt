@@ -66,11 +66,17 @@ unfolding bytesOf
 zero-bytes zero = refl
 zero-bytes (suc n) = let e : suc n * 2 ≡ suc (suc (n * 2)) = omega arith in rw (e, zero-bytes n)
 
+-- bytes make 16-bit words, and 16-bit words make bytes
 pub words-below : (b : List ℕ) → Below 256 b → Below 65536 (wordsOf b)
 unfolding wordsOf
 words-below [] h = tt
 words-below (x ∷ []) h = tt
 words-below (x ∷ y ∷ r) h = (omega (arith, h .0, h .1 .0), words-below r (h .1 .1))
+
+pub bytes-below : (ws : List ℕ) → Below 65536 ws → Below 256 (bytesOf ws)
+unfolding bytesOf
+bytes-below [] h = tt
+bytes-below (w ∷ ws) h = (omega (arith, h .0), (omega arith, bytes-below ws (h .1)))
 
 -- the words of a part of the bytes are a part of the words
 pub words-drop : (n : ℕ) (b : List ℕ) → wordsOf (drop (n * 2) b) ≡ drop n (wordsOf b)

@@ -7,10 +7,11 @@ use native.Mathlib.Omega.{arith}
 use lib.ListN.{length, take, drop, set, length-append}
 use lib.Seq.{sets, sets-eq, slice, length-take-le, length-slice, drop-set-lt, take-at, drop-at}
 use Rattle.units.specs.Units.{bytesOfWords}
-use Rattle.words.specs.Words.{wordsOf, bytesOf, words, xorAll, framed, Below, blockFrom}
+use Rattle.words.specs.Words.{wordsOf, bytesOf, words, xorAll, framed, Below, blockFrom, mostRecordWords}
 use Rattle.words.specs.Writing.{Put}
-use Rattle.words.proofs.Laws.{length-wordsOf, length-bytesOf, bytes-words, words-bytes, words-take, words-slice, bytes-append}
-use Rattle.words.proofs.Lists.{all-take}
+use Rattle.words.proofs.Laws.{length-wordsOf, length-bytesOf, bytes-words, words-bytes, bytes-below, words-take, words-slice, bytes-append}
+use Rattle.words.proofs.Lists.{all-take, all-append}
+use Rattle.words.proofs.Xor.{fold-below}
 
 -- a block's words up to the last record word, once the length word is put
 words-headed : (b : List ℕ) (n w : ℕ) → 2 ≤ length b → wordsOf (slice 0 ((n + 1) * 2) (sets b 0 (bytesOf (w ∷ [])))) ≡ w ∷ words (wordsOf b) 2 (n + 1)
@@ -68,6 +69,13 @@ behind-length-put b ws n e h =
 pub length-framed : (ws : List ℕ) → length (blockFrom ws) ≡ bytesOfWords (length ws + 2)
 unfolding framed
 length-framed ws = let x = xorAll ((length ws + 2) ∷ ws) in omega (arith, length-bytesOf ((length ws + 2) ∷ (ws ++ (x ∷ []))), length-append ws (x ∷ []))
+
+-- which are bytes, where its words are words
+pub framed-below : (ws : List ℕ) → length ws ≤ mostRecordWords → Below 65536 ws → Below 256 (blockFrom ws)
+unfolding framed
+framed-below ws most h =
+    let head : length ws + 2 < 65536 = omega arith in
+    bytes-below _ (head, all-append (λ w. w < 65536) ws _ h (fold-below ((length ws + 2) ∷ ws) (head, h), tt))
 
 -- record words put there and then sealed: their frame is written
 pub sealed-put : (b ws : List ℕ) (n : ℕ) {b′ after : List ℕ} → n ≡ length ws → bytesOfWords (n + 2) ≤ length b → b′ ≡ sets b 2 (bytesOf ws)
