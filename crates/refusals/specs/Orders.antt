@@ -6,7 +6,7 @@
 -- 6, and 9 at word 1, with the rows of the next record (where it begins is not known); 22 of a count with 28 and 24, and it, 23 and 27 with 22, 25 and 26 of
 -- later lines (what is asked of them is not known); 28 of Data with 26 of the next line (a field stands there);
 -- 21 with 22 to 28 (a line that is not blank begins a record), 45 with 46 (no entry is the last), 29 or 50 with a row before it (what is needed is not known);
--- in a slice of blocks 1 and 51 with the block's own and with the blocks behind it (where they begin is not known), 51 of one byte left with 1 (no first word).
+-- in a slice of blocks 1 and 51 with the block's own and with the blocks behind it (where it ends is not known, or it is not all there), 51 of one byte left with 1 (no first word).
 use Prim.Native.Nat.{ℕ, _+_, _-_, _<_}
 use mathlib.Core.Path.{_≡_}
 use mathlib.Core.List.{List, [], _∷_, _++_, map}

@@ -217,12 +217,21 @@ undoTrials =
     ∷ (undoLast (blockFrom valueRecord) (oneStands (1 ∷ 18 ∷ 900 ∷ 905 ∷ [])), answer 46 0 0 0)
     ∷ []
 
+-- the block of a Data record of n words, all of them its prologue's
+abbrev pub prologueBlock : ℕ → List ℕ
+prologueBlock n = blockFrom (dataOf (n ∷ 0 ∷ 0 ∷ 0 ∷ replicate (n - 16) 0))
+
+-- the most bytes: four blocks of 8,000 words
+abbrev pub fullSlice : List ℕ
+fullSlice = let full = prologueBlock 7998 in full ++ full ++ full ++ full
+
 -- slices that are refused: the block stands first in it, or behind a good one
 unfoldable pub badSlices : List (List ℕ × Answer)
 unfolding bytesOf
 badSlices =
-    -- "slice over 64,000 bytes"; one of 64,000 is asked for its first word
+    -- "slice over 64,000 bytes", also where one byte is left behind the blocks, which would be 51; one of 64,000 is asked for its first word
     (replicate 64001 0, answer 52 0 0 0)
+    ∷ (fullSlice ++ (0 ∷ []), answer 52 0 0 0)
     ∷ (replicate 64000 0, answer 1 0 0 0)
     -- "only one byte is left"
     ∷ (0 ∷ [], answer 51 1 0 0)
@@ -242,10 +251,6 @@ badSlices =
     ∷ (leastBlock ++ bytesOf (8001 ∷ []), answer 1 0 0 0)
     ∷ []
 
--- the block of a Data record of n words, all of them its prologue's
-abbrev pub prologueBlock : ℕ → List ℕ
-prologueBlock n = blockFrom (dataOf (n ∷ 0 ∷ 0 ∷ 0 ∷ replicate (n - 16) 0))
-
 -- "it takes blocks one after the other ... and writes blocks again"
 unfoldable pub repackTrials : List Trial
 unfolding badSlices statedBlocks
@@ -257,9 +262,9 @@ repackTrials =
     ++ ((repackBlocks leastBlock 35, answer 50 36 0 0)
     ∷ (repackBlocks (leastBlock ++ leastBlock) 67, answer 50 68 0 0)
     ∷ (repackBlocks (leastBlock ++ leastBlock) 68, answer 0 68 0 0)
-    -- "An empty slice gives no blocks"; four of 8,000 words are 64,000 bytes
+    -- "An empty slice gives no blocks"; "up to 64,000 bytes"
     ∷ (repackBlocks [] 0, answer 0 0 0 0)
-    ∷ (let full = prologueBlock 7998 in repackBlocks (full ++ full ++ full ++ full) 64000, answer 0 64000 0 0)
+    ∷ (repackBlocks fullSlice 64000, answer 0 64000 0 0)
     -- "into the current block if it fits, else into a new one": 16 and 7,982 words make one of 8,000, and 16 and 7,983 stay two
     ∷ (repackBlocks (leastBlock ++ prologueBlock 7982) 16000, answer 0 16000 0 0)
     ∷ (repackBlocks (leastBlock ++ prologueBlock 7983) 16006, answer 0 16006 0 0)
