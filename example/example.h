@@ -8,7 +8,7 @@
 #include "cedar.h"
 
 /* One byte more than the largest block, text or slice of blocks has, so that a longer file is refused as well. */
-enum { BLOCK_ROOM = CEDAR_BLOCK_MOST + 1, TEXT_ROOM = CEDAR_READ_MOST + 1, SLICE_ROOM = CEDAR_SLICE_BYTES + 1 };
+enum { BLOCK_ROOM = CEDAR_BLOCK_MOST + 1, TEXT_ROOM = CEDAR_READ_MOST + 1, SLICE_ROOM = CEDAR_REPACK_MOST + 1 };
 
 /* The number of bytes read, at most `room`, or -1, with the reason in errno, if the file cannot be read. */
 static inline long read_file(const char *name, uint8_t *bytes, size_t room)

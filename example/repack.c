@@ -32,7 +32,7 @@ static void say_refusal(uint64_t answer, const uint8_t *blocks)
 {
     switch (cedar_n(answer)) {
     case 52:
-        fprintf(stderr, "the file has over %d bytes\n", CEDAR_SLICE_BYTES);
+        fprintf(stderr, "the file has over %d bytes\n", CEDAR_REPACK_MOST);
         break;
     case 51:
         fprintf(stderr, "block %u runs past the end of the file\n", (unsigned)cedar_a(answer));
@@ -44,7 +44,7 @@ static void say_refusal(uint64_t answer, const uint8_t *blocks)
 
 int main(int argc, char **argv)
 {
-    static uint8_t blocks[SLICE_ROOM], repacked[CEDAR_SLICE_BYTES];
+    static uint8_t blocks[SLICE_ROOM], repacked[CEDAR_REPACK_MOST];
     long length = read_argument(argc, argv, blocks, sizeof blocks);
     uint64_t answer;
 

@@ -165,8 +165,8 @@ enum { CEDAR_READ_MOST = 65536, CEDAR_BLOCK_MOST = 16000 };
  */
 uint64_t cedar_to_block(const uint8_t *text, size_t text_length, uint8_t *block, size_t block_length);
 
-/* Bytes of blocks that are repacked together, at most. */
-enum { CEDAR_SLICE_BYTES = 64000 };
+/* Bytes of the blocks that are repacked together, at most. They suffice for the blocks that come out, too. */
+enum { CEDAR_REPACK_MOST = 64000 };
 
 /*
  * Writes the records of the blocks in the `blocks_length` bytes at `blocks`, which stand one after the other, to `out`,
@@ -184,8 +184,9 @@ enum { CEDAR_SLICE_BYTES = 64000 };
  * Tried in this order: 52, then block by block, and at the end 50; the first that holds is the answer.
  * A block: 51 where only one byte is left; 1 where its word 1, which says how long it is, is under 18 or over 8,000;
  *   51 where it runs past the end; then 3 to 9. So 2 is never given.
- * 1 to 9 do not tell the block; it is the first that cedar_judge refuses, each cut by its word 1.
- * No block at all is accepted, and gives no byte.
+ * 1 to 9 do not tell which block it is: it is the first whose word 1 is under 18 or over 8,000, or that cedar_judge
+ *   refuses when it is lent as many words as its word 1 says.
+ * With blocks_length 0 the call succeeds, and writes nothing.
  * The output needs at most blocks_length bytes. With out_length 0, and any out but NULL, the call asks how many.
  * A sheet stays with the block that it was kept for: each block written starts with an empty one.
  * Bytes of the output past those written stay as they are.
