@@ -7,7 +7,7 @@ use Rattle.write_lines.specs.Text.{toLines}
 use Rattle.read_text.specs.Block.{toBlock}
 use Rattle.sheet.specs.Sheets.{Entry, version1, started}
 use Rattle.amending.specs.Amending.{amend, undo}
-use Rattle.repacking.specs.Packing.{repack}
+use Rattle.repacking.specs.Repacking.{repack}
 use Rattle.cedar.specs.Calls.{judgeAnswer, prefixAnswer, returned, converted, returnedBoth, amendedBoth}
 
 -- `cedar_judge`

@@ -46,11 +46,11 @@ use Rattle.amending.specs.declared.Objection.the-variants as rows
 use Rattle.block_value.specs.declared.Obstacle.the-variants as value
 use Rattle.amending.specs.Cases.{amendedOf}
 use Rattle.amending.specs.Amending.{Outcome, buffers, amend, undo}
-use Rattle.repacking.specs.declared.SliceRefusal.the-variants as slice
+use Rattle.block_slice.specs.declared.SliceRefusal.the-variants as slice
 use Rattle.repacking.specs.declared.Repacked.{Repacked}
 use Rattle.repacking.specs.declared.Repacked.the-variants as repacked
 use Rattle.repacking.specs.Cases.{repackedOf}
-use Rattle.repacking.specs.Packing.{repack}
+use Rattle.repacking.specs.Repacking.{repack}
 use Rattle.cedar.specs.Calls.{Returned, returned, converted, ReturnedBoth, returnedBoth, amendedBoth}
 use Rattle.printed.specs.Listing.{listingOf}
 use Rattle.printed.specs.Printed.{linesPrinted, blockPrinted, blocksPrinted}

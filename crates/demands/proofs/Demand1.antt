@@ -40,8 +40,9 @@ use Rattle.sheet.proofs.Sheets.{sheet-opened}
 use Rattle.block_value.specs.Places.{recordNumber, wordNumber, oldValue, recordIn, noRecord, noValue, found, stands}
 use Rattle.amending.specs.Amending.{Outcome, Both, both, amendable, undoable, lastOf, leaving, onBoth, amend, undo}
 use Rattle.units.proofs.Told.{Known}
-use Rattle.repacking.specs.Blocks.{blocksIn, recordsIn}
-use Rattle.repacking.specs.Packing.{repacked, repack}
+use Rattle.block_slice.specs.Blocks.{blocksIn, recordsIn}
+use Rattle.packing.specs.Packing.{repacked}
+use Rattle.repacking.specs.Repacking.{repack}
 use Rattle.repacking.proofs.Known.{repack-told}
 
 -- ---- the calls on a block, on a text, and the prefix call

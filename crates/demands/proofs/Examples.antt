@@ -28,8 +28,9 @@ use Rattle.record.specs.Values.{isValue}
 use Rattle.sheet.specs.Sheets.{sheetOf, sheetWith, entriesOf, entries, opened, broken, allZero}
 use Rattle.block_value.specs.Places.{noRecord, withValue, stands}
 use Rattle.amending.specs.Amending.{amendable, undoable, onBoth}
-use Rattle.repacking.specs.Blocks.{wrongFirst, judgeStated, judgeNext, walkBlocks, blocksIn}
-use Rattle.repacking.specs.Packing.{packed, groups, repacked, repack}
+use Rattle.block_slice.specs.Blocks.{wrongFirst, judgeStated, judgeNext, walkBlocks, blocksIn}
+use Rattle.packing.specs.Packing.{packed, groups, repacked}
+use Rattle.repacking.specs.Repacking.{repack}
 use Rattle.demands.specs.Examples.{blockK, blockLeast, paperRows, PaperRows, prefixRows, PrefixRows, listingRows, ListingRows, RepackedK, readRows, ReadRows, writtenRows, WrittenRows}
 
 pub paper-rows : PaperRows

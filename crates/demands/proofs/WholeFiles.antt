@@ -7,7 +7,7 @@ use native.Mathlib.Omega.{arith}
 use borrow.Author.Tests.{lt-ltb, le-ltb}
 use lib.ListN.{length, length-map}
 use Rattle.units.specs.Answers.{answer, Verdict, passed, refused, onward}
-use Rattle.words.specs.Words.{wordsOf, framed, joined, All, Below, mostRecordWords}
+use Rattle.words.specs.Words.{framed, joined, All, Below, mostRecordWords}
 use Rattle.words.specs.Outcomes.{Written, written, leaves}
 use Rattle.words.proofs.Laws.{words-below, joined-append}
 use Rattle.words.proofs.Lists.{all-append, all-parts, all-mapped}
@@ -17,15 +17,16 @@ use Rattle.block.specs.Judging.{Accepted}
 use Rattle.block.specs.Records.{recordsOf}
 use Rattle.block.specs.Rules.{blockOf, BlockRecord, IsBlock}
 use Rattle.block.proofs.Exact.{words-are}
-use Rattle.repacking.specs.Blocks.{mostBytes, blocksIn, recordsIn}
-use Rattle.repacking.specs.Cases.{RepackRow}
-use Rattle.repacking.specs.Rules.{IsSlice}
-use Rattle.repacking.specs.Packing.{Group, groups, repacked, repack}
-use Rattle.repacking.proofs.Slices.{blocks-stop, blocks-past, only-slices, every-slice}
-use Rattle.repacking.proofs.Groups.{groups-join, new-late}
-use Rattle.repacking.proofs.Fewest.{fewest}
+use Rattle.block_slice.specs.Blocks.{mostBytes, blocksIn, recordsIn}
+use Rattle.block_slice.specs.Rules.{IsSlice}
+use Rattle.packing.specs.Packing.{Group, groups, repacked}
+use Rattle.repacking.specs.Repacking.{repack}
+use Rattle.block_slice.proofs.Slices.{blocks-stop, blocks-past, only-slices, every-slice}
+use Rattle.packing.proofs.Groups.{groups-join, new-late}
+use Rattle.packing.proofs.Fewest.{fewest}
 use Rattle.repacking.proofs.Made.{Good, Whole, all-both, each-good, records-good, new-groups, groups-whole, made-accepted, made-groups}
-use Rattle.repacking.proofs.Known.{KnownSlice, slice-known, repacked-bound}
+use Rattle.block_slice.proofs.Known.{KnownSlice, slice-known, row-not-0}
+use Rattle.repacking.proofs.Known.{repacked-bound}
 use Rattle.demands.specs.Demand2.{bytesIn, wrote}
 use Rattle.demands.specs.WholeFiles.{SlicesExactly, BlockByBlock, BytesNeeded, EmptySlice, Repacking, BlocksAgain, StartsAnew, SameRecords, FewestBlocks, FitsElseNew, RepackedTwice, NeverLonger}
 use Rattle.demands.proofs.Demand2.{bytes-in, with-room}
@@ -51,13 +52,7 @@ when-written out bytes {w} e z = by (written-either 50 out bytes)
     by (inl f) = absurd (omega (arith, ap (λ x. x .answer .n) (e ∙ f)))
     by (inr f) = e ∙ f
 
--- no refusal has n = 0
-row-not-0 : {n : ℕ} → RepackRow n → n ≡ 0 → ⊥
-row-not-0 (inl e) z = omega arith
-row-not-0 (inr (inl h)) z = omega (arith, h .0)
-row-not-0 (inr (inr h)) z = omega (arith, h .0)
-
--- so a success is of a slice of blocks
+-- a success is of a slice of blocks
 its-blocks : (slice out : List ℕ) → Below 256 slice → repack slice out .answer .n ≡ 0 → (bs : List (List ℕ)) × IsSlice slice bs
 unfolding repack written
 its-blocks slice out bytes z = by (blocksIn slice) refl (slice-known slice bytes) z

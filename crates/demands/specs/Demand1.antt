@@ -19,7 +19,7 @@ use Rattle.read_text.specs.Block.{wordsIn, toBlock}
 use Rattle.sheet.specs.Sheets.{Entry, version1, opened, started}
 use Rattle.amending.specs.Amending.{Outcome, amend, undo}
 use Rattle.repacking.specs.Cases.{RepackRow}
-use Rattle.repacking.specs.Packing.{repack}
+use Rattle.repacking.specs.Repacking.{repack}
 use Rattle.prefix.specs.Table.{prefixOf, answerOf}
 use Rattle.cedar.specs.Promises.{CedarJudges, CedarFindsPrefix, CedarWritesLines, CedarWritesBlock, CedarStartsSheet, CedarAmends, CedarUndoes, CedarRepacks}
 

@@ -19,7 +19,7 @@ use Rattle.report.specs.Text.{text}
 use Rattle.prefix.specs.Table.{letters, prefixOf}
 use Rattle.sheet.specs.Sheets.{version1, sheetOf}
 use Rattle.block_value.specs.Places.{recordIn}
-use Rattle.repacking.specs.Packing.{repack}
+use Rattle.repacking.specs.Repacking.{repack}
 use Rattle.cedar.specs.Calls.{judgeAnswer}
 use Rattle.printed.specs.Listing.{listingOf}
 use Rattle.demands.specs.Demand3.{Call, amends, undoes, doneAll, leftBy, fresh}

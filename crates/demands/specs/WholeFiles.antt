@@ -10,9 +10,10 @@ use Rattle.words.specs.Words.{joined, All, Below, mostRecordWords}
 use Rattle.words.specs.Outcomes.{leaves}
 use Rattle.block.specs.Judging.{Accepted}
 use Rattle.block.specs.Records.{recordsOf}
-use Rattle.repacking.specs.Blocks.{mostBytes, judgeNext, blocksIn, recordsIn}
-use Rattle.repacking.specs.Rules.{IsSlice}
-use Rattle.repacking.specs.Packing.{Group, repack}
+use Rattle.block_slice.specs.Blocks.{mostBytes, judgeNext, blocksIn, recordsIn}
+use Rattle.block_slice.specs.Rules.{IsSlice}
+use Rattle.packing.specs.Packing.{Group}
+use Rattle.repacking.specs.Repacking.{repack}
 use Rattle.demands.specs.Demand2.{bytesIn, wrote}
 
 -- ---- what is taken

@@ -1,5 +1,4 @@
 -- What is printed, by what is found of the input, and that it fits.
-use mathlib.Core.Logic.{inl, inr}
 use mathlib.Core.Path.{_≡_, refl, sym, ap, _∙_}
 use mathlib.Core.List.{List}
 use Prim.Native.Nat.{ℕ, _+_, _≤_}
@@ -26,11 +25,11 @@ use Rattle.read_text.specs.Block.{readText}
 use Rattle.read_text.proofs.Known.{text-known, words-room}
 use Rattle.report.specs.Refusal.{refusalLine, orRefusal}
 use Rattle.report.proofs.Lines.{printed-most}
-use Rattle.repacking.specs.Blocks.{blocksIn, recordsIn}
-use Rattle.repacking.specs.Packing.{repacked}
-use Rattle.repacking.specs.Cases.{RepackRow}
-use Rattle.repacking.proofs.Slices.{only-slices}
-use Rattle.repacking.proofs.Known.{slice-known, repacked-bound}
+use Rattle.block_slice.specs.Blocks.{blocksIn, recordsIn}
+use Rattle.packing.specs.Packing.{repacked}
+use Rattle.block_slice.proofs.Slices.{only-slices}
+use Rattle.block_slice.proofs.Known.{slice-known, row-not-0}
+use Rattle.repacking.proofs.Known.{repacked-bound}
 use Rattle.printed.specs.Printed.{Printed, EndOrRefusal, linesPrinted, blockPrinted, blocksPrinted}
 
 -- what is to be printed is this text: it has room, and is printed once it is put in
@@ -97,9 +96,4 @@ pub text-row : (t : List ℕ) (r : Answer) → readText t ≡ refused r → r .n
 text-row t r e z = omega (arith, (rw e at (text-known t)) .listed)
 
 pub slice-row : (slice : List ℕ) → Below 256 slice → (r : Answer) → blocksIn slice ≡ refused r → r .n ≡ 0 → ⊥
-slice-row slice h r e z = by ((rw e at (slice-known slice h)) .listed)
-  where
-    by : RepackRow (r .n) → ⊥
-    by (inl one) = omega arith
-    by (inr (inl own)) = omega arith
-    by (inr (inr last)) = omega arith
+slice-row slice h r e z = row-not-0 ((rw e at (slice-known slice h)) .listed) z

@@ -10,8 +10,8 @@ use Rattle.block.specs.Judging.{judged}
 use Rattle.block.specs.Records.{recordsOf}
 use Rattle.write_lines.specs.Text.{textOf}
 use Rattle.read_text.specs.Block.{readText}
-use Rattle.repacking.specs.Blocks.{blocksIn, recordsIn}
-use Rattle.repacking.specs.Packing.{repacked}
+use Rattle.block_slice.specs.Blocks.{blocksIn, recordsIn}
+use Rattle.packing.specs.Packing.{repacked}
 use Rattle.report.specs.Refusal.{refusalLine, orRefusal}
 
 -- a text was put at the start of a buffer and ends in it, so that its bytes can be lent on

@@ -31,8 +31,9 @@ use Rattle.read_text.specs.Block.{readText, wordsIn, toBlock}
 use Rattle.sheet.specs.Sheets.{sheetOf, sheetWith, entriesOf, entries, opened, started, broken, allZero}
 use Rattle.block_value.specs.Places.{noRecord, stands}
 use Rattle.amending.specs.Amending.{amendable, undoable, onBoth}
-use Rattle.repacking.specs.Blocks.{wrongFirst, judgeStated, judgeNext, walkBlocks, blocksIn}
-use Rattle.repacking.specs.Packing.{packed, groups, repacked, repack}
+use Rattle.block_slice.specs.Blocks.{wrongFirst, judgeStated, judgeNext, walkBlocks, blocksIn}
+use Rattle.packing.specs.Packing.{packed, groups, repacked}
+use Rattle.repacking.specs.Repacking.{repack}
 use Rattle.refusals.specs.Questions.{AnsweredSo, turned, wordPut, cutTo}
 use Rattle.refusals.specs.Refusals.{statedBlocks, badBlocks, blockTrials, badTexts, textTrials, roomTrials, sheetTrials, amendTrials, undoTrials, badSlices, repackTrials, EveryRefusal}
 use Rattle.refusals.specs.Orders.{everyTwo, sizeOrder, checksumOrder, frameOrder, twoDataOrder, shortCatalogueOrder, cardsOrder, blockOrders, ownOrder, recordsOrder, linesOrders, onLine, dataLinesOrder, leftToRight, firstLineOrder, cardLinesOrder, blankLinesOrder, textOrders, amendOrders, undoOrders, startOrder, repackOrders, EveryOrder, LongFirst, LongSliceFirst}

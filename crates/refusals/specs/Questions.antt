@@ -14,7 +14,7 @@ use Rattle.write_lines.specs.Text.{toLines}
 use Rattle.read_text.specs.Block.{wordsIn, toBlock}
 use Rattle.sheet.specs.Sheets.{Entry, version1, sheetOf, opened, started}
 use Rattle.amending.specs.Amending.{amend, undo}
-use Rattle.repacking.specs.Packing.{repack}
+use Rattle.repacking.specs.Repacking.{repack}
 
 -- a call and what is lent to it: the bytes of each buffer, and of an output how many there are
 pub data Question : Type 0 where

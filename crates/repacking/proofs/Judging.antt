@@ -15,13 +15,14 @@ use Rattle.block.specs.Judging.{Accepted}
 use Rattle.block.specs.Records.{recordsOf}
 use Rattle.block.specs.Rules.{BlockRecord}
 use Rattle.block.proofs.Exact.{only-good}
-use Rattle.repacking.specs.declared.Current.{Current}
-use Rattle.repacking.specs.Blocks.{judgeNext, before, walkBlocks, recordsIn, mostBytes}
-use Rattle.repacking.specs.Packing.{repacked}
-use Rattle.repacking.specs.Current.{currentAt, currentAfter, bytesTo, bytesNeeded, Countable}
-use Rattle.repacking.proofs.Slices.{FirstIs, first-is, blocks-stop, blocks-next}
+use Rattle.packing.specs.declared.Current.{Current}
+use Rattle.block_slice.specs.Blocks.{judgeNext, before, walkBlocks, recordsIn, mostBytes}
+use Rattle.packing.specs.Packing.{repacked}
+use Rattle.packing.specs.Current.{currentAt, currentAfter, bytesTo}
+use Rattle.repacking.specs.Between.{bytesNeeded, Countable}
+use Rattle.block_slice.proofs.Slices.{FirstIs, first-is, blocks-stop, blocks-next}
 use Rattle.repacking.proofs.Made.{block-records}
-use Rattle.repacking.proofs.Counting.{After, after, after-append, repacked-bytes}
+use Rattle.packing.proofs.Filling.{After, after, after-append, repacked-bytes}
 
 -- what an accepted block has: good records, and the words that its bytes leave for them
 pub record Holds (b : List ℕ) : Type 0 where

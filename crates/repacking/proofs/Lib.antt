@@ -1,6 +1,3 @@
-pub mod Slices
-pub mod Groups
-pub mod Fewest
 pub mod Made
 pub mod Known
 pub mod Counting

@@ -14,10 +14,10 @@ use Rattle.block.specs.Judging.{Accepted}
 use Rattle.block.specs.Records.{recordsOf}
 use Rattle.block.specs.Rules.{blockOf, BlockRecord, IsBlock}
 use Rattle.block.proofs.Exact.{ok-long, only-good, every-good, its-records}
-use Rattle.repacking.specs.Blocks.{recordsIn}
-use Rattle.repacking.specs.Packing.{Group, groups, blocksOf, repacked}
-use Rattle.repacking.proofs.Groups.{Fits, NewGroups, groups-join, groups-new, new-each}
-use Rattle.repacking.proofs.Fewest.{fewest}
+use Rattle.block_slice.specs.Blocks.{recordsIn}
+use Rattle.packing.specs.Packing.{Group, groups, blocksOf, repacked}
+use Rattle.packing.proofs.Groups.{Fits, NewGroups, groups-join, groups-new, new-each}
+use Rattle.packing.proofs.Fewest.{fewest}
 
 -- ---- lists of lists
 

@@ -13,9 +13,10 @@ use Rattle.words.specs.Words.{joined, Below}
 use Rattle.words.specs.Outcomes.{Written, written, leaves}
 use Rattle.words.proofs.Writing.{too-short, all-written}
 use Rattle.repacking.specs.declared.Repacked.{Repacked}
-use Rattle.repacking.specs.Blocks.{mostBytes, walkBlocks, blocksIn, recordsIn}
-use Rattle.repacking.specs.Packing.{groups, repacked, repack}
-use Rattle.repacking.specs.Current.{packedAgain, bytesNeeded, Packable}
+use Rattle.block_slice.specs.Blocks.{mostBytes, walkBlocks, blocksIn, recordsIn}
+use Rattle.packing.specs.Packing.{groups, repacked}
+use Rattle.repacking.specs.Repacking.{repack}
+use Rattle.repacking.specs.Between.{packedAgain, bytesNeeded, Packable}
 use Rattle.repacking.specs.Cases.{repackedOf}
 use Rattle.repacking.specs.Promises.{Repacks}
 use Rattle.repacking.proofs.Known.{repack-told}

@@ -7,9 +7,10 @@ use lib.ListN.{length}
 use Rattle.words.specs.Words.{All}
 use Rattle.words.proofs.Lists.{all-parts}
 use Rattle.block.specs.Rules.{BlockRecord}
-use Rattle.repacking.specs.declared.Current.{Current}
-use Rattle.repacking.specs.Current.{sealedBytes, currentAfter, finished, Fitting, PutOn}
-use Rattle.repacking.proofs.Counting.{After, after, after-append}
+use Rattle.packing.specs.declared.Current.{Current}
+use Rattle.packing.specs.Current.{sealedBytes, currentAfter}
+use Rattle.repacking.specs.Between.{finished, Fitting, PutOn}
+use Rattle.packing.proofs.Filling.{After, after, after-append}
 
 -- of all records some are left: with them, and others behind them, the output comes to the same, and they fit into it
 pub record Putting (out₀ : List ℕ) (p₀ : Current) (all : List (List ℕ)) (out : List ℕ) (p : Current) (rest : List (List ℕ)) : Type 0 where

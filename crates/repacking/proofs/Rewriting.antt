@@ -10,14 +10,15 @@ use Rattle.units.specs.Answers.{passed}
 use Rattle.words.specs.Words.{wordsOf, word, joined, All, Below}
 use Rattle.block.specs.Judging.{Accepted}
 use Rattle.block.specs.Records.{recordsOf}
-use Rattle.repacking.specs.declared.Current.{Current}
-use Rattle.repacking.specs.Blocks.{walkBlocks, recordsIn}
-use Rattle.repacking.specs.Packing.{packed, groups, repacked}
-use Rattle.repacking.specs.Current.{currentAt, finished, Fitting, PutOn, Packable}
-use Rattle.repacking.proofs.Slices.{accepted-stated, same-first, slice-cut}
-use Rattle.repacking.proofs.Groups.{some-packed}
+use Rattle.packing.specs.declared.Current.{Current}
+use Rattle.block_slice.specs.Blocks.{walkBlocks, recordsIn}
+use Rattle.packing.specs.Packing.{packed, groups, repacked}
+use Rattle.packing.specs.Current.{currentAt}
+use Rattle.repacking.specs.Between.{finished, Fitting, PutOn, Packable}
+use Rattle.block_slice.proofs.Slices.{accepted-stated, same-first, slice-cut}
+use Rattle.packing.proofs.Groups.{some-packed}
 use Rattle.repacking.proofs.Made.{Good, each-good, records-good, never-longer}
-use Rattle.repacking.proofs.Counting.{repacked-ends}
+use Rattle.packing.proofs.Filling.{repacked-ends}
 use Rattle.repacking.proofs.Writing.{onto-nothing}
 use Rattle.repacking.proofs.Putting.{Putting, putting-start, first-fits, first-put}
 

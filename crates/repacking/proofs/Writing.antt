@@ -17,10 +17,11 @@ use Rattle.words.proofs.Sealing.{length-framed}
 use Rattle.words.proofs.Writing.{sets-append}
 use Rattle.words.specs.Writing.{Room, Put}
 use Rattle.block.specs.Rules.{BlockRecord}
-use Rattle.repacking.specs.declared.Current.{Current}
-use Rattle.repacking.specs.Packing.{Group, onto, packed, blocksOf}
-use Rattle.repacking.specs.Current.{countLimit, currentAt, sealedBytes, roomFor, withRecord, currentAfter, standing, finished, Fitting, RoomMade, PutOn}
-use Rattle.repacking.proofs.Counting.{room-at}
+use Rattle.packing.specs.declared.Current.{Current}
+use Rattle.packing.specs.Packing.{Group, onto, packed, blocksOf}
+use Rattle.packing.specs.Current.{countLimit, currentAt, sealedBytes, roomFor, withRecord, currentAfter}
+use Rattle.repacking.specs.Between.{standing, finished, Fitting, RoomMade, PutOn}
+use Rattle.packing.proofs.Filling.{room-at}
 use Rattle.repacking.proofs.Stores.{sets-over, drop-sets-add, words-append}
 
 -- ---- what stands in the current block

@@ -1,6 +1,4 @@
-pub mod Blocks
-pub mod Packing
-pub mod Current
+pub mod Repacking
+pub mod Between
 pub mod Cases
-pub mod Rules
 pub mod Promises

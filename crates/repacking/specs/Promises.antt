@@ -6,7 +6,7 @@ use Rattle.units.specs.Answers.{Packs}
 use Rattle.words.specs.Outcomes.{leaves}
 use Rattle.repacking.specs.declared.Repacked.{Repacked}
 use Rattle.repacking.specs.Cases.{repackedOf}
-use Rattle.repacking.specs.Packing.{repack}
+use Rattle.repacking.specs.Repacking.{repack}
 
 -- `repack`: "it takes blocks one after the other ... and writes blocks again" into this output, and the output afterwards; the answer's numbers can be packed
 pub record Repacks (slice out : List ℕ) (r : Repacked) (after : List ℕ) : Type 0 where

@@ -1,6 +1,7 @@
 // Blocks one after the other, packed again: their records in their order, in as few blocks as hold them.
-use block::Judged;
-use block::Refusal;
+use block_slice::Measured;
+use block_slice::SliceRefusal;
+use packing::Current;
 use units::Answer;
 use units::Bytes;
 use units::Words;
@@ -9,135 +10,27 @@ ghost use mathlib.Core.List.{[], _∷_};
 ghost use Prim.Native.Nat.{_<_, _≤_, _^_};
 ghost use lib.ListN.{length};
 ghost use lib.Seq.{sets};
-ghost use Rattle.words.specs.Words.{wordsOf, bytesOf, word, mostRecordWords, blockFrom};
+ghost use Rattle.words.specs.Words.{wordsOf, bytesOf, mostRecordWords, blockFrom};
 ghost use Rattle.block.specs.Judging.{Accepted};
 ghost use Rattle.block.specs.Records.{recordsOf};
 ghost use Rattle.block.specs.Rules.{BlockRecord};
 ghost use Rattle.units.specs.Answers.{passed, fitted};
 ghost use Rattle.words.specs.Outcomes.{leaves, written};
-ghost use Rattle.repacking.specs.Blocks.{wrongFirst, judgeStated, judgeNext, mostBytes};
+ghost use Rattle.block_slice.specs.Blocks.{mostBytes};
+ghost use Rattle.block_slice.specs.Cases.{measuredOf};
+ghost use Rattle.packing.specs.Current.{countLimit, sealedBytes, currentAfter};
 ghost use Rattle.repacking.specs.Promises.{Repacks};
-ghost use Rattle.repacking.specs.Current.{countLimit, sealedBytes, standing, roomFor, withRecord, currentAfter, bytesTo, packedAgain, bytesNeeded, Countable, Fitting, RoomMade, PutOn, Packable, PackedInto};
-ghost use Rattle.repacking.specs.Cases.{sliceRefusalOf, measuredOf, repackedOf};
+ghost use Rattle.repacking.specs.Between.{standing, packedAgain, bytesNeeded, Countable, Fitting, RoomMade, PutOn, Packable, PackedInto};
+ghost use Rattle.repacking.specs.Cases.{repackedOf};
 
 // The most bytes of blocks that are repacked at a time.
 const MOST_BYTES: usize = 64000;
-
-// Why a slice of blocks is refused: it is too long, block n runs past it, or a block's own refusal.
-pub enum SliceRefusal {
-    Long,
-    Cut(u16),
-    Block(Refusal),
-}
 
 // What becomes of a slice of blocks: the bytes of its blocks packed again, its refusal, or an output that is too short for the bytes needed.
 pub enum Repacked {
     Blocks(Bytes),
     Refused(SliceRefusal),
     Short(Bytes),
-}
-
-// What is found of blocks that are judged: a count of bytes, or the slice's refusal.
-enum Measured {
-    Size(Bytes),
-    Wrong(SliceRefusal),
-}
-
-// The words that the next block says it has, the first of what is left of a slice.
-fn stated_words(rest: &[u8]) -> Words
-    requires { ⌜ 2 ≤ length (now rest) ⌝ }
-    ensures { λ r. ⌜ (r .0 ≡ word (wordsOf (now (rest .entry))) 1) × (r .0 < 65536) ⌝ }
-{
-    units::words_said(words::word_at(rest, Words(0)))
-}
-
-// A first word that no block has.
-fn wrong_first(stated: Words) -> bool
-    ensures { λ r. ⌜ r ≡ wrongFirst (stated .0) ⌝ }
-{
-    let first = stated.0;
-    if first < 18 {
-        return true;
-    }
-    8000 < first
-}
-
-// Judges block `number` by the words that it states.
-fn judge_stated(rest: &[u8], number: u16, stated: Words) -> Measured
-    requires { ⌜ stated .0 < 65536 ⌝ }
-    ensures { λ r. ⌜ measuredOf r ≡ judgeStated number (stated .0) (now (rest .entry)) ⌝ }
-{
-    let size = units::bytes_of_words(stated);
-    let end = size.0;
-    if rest.len() < end {
-        return Measured::Wrong(SliceRefusal::Cut(number));
-    }
-    match block::judge(&rest[..end]) {
-        Judged::Refused(r) => Measured::Wrong(SliceRefusal::Block(r)),
-        Judged::Records(_) => Measured::Size(size),
-    }
-}
-
-// Judges block `number`, the next of what is left of a slice.
-fn judge_next(rest: &[u8], number: u16) -> Measured
-    requires { ⌜ 0 < length (now rest) ⌝ }
-    ensures { λ r. ⌜ measuredOf r ≡ judgeNext number (now (rest .entry)) ⌝ }
-{
-    if rest.len() == 1 {
-        return Measured::Wrong(SliceRefusal::Cut(number));
-    }
-    let stated = stated_words(rest);
-    if wrong_first(stated) {
-        return Measured::Wrong(SliceRefusal::Block(Refusal::Size));
-    }
-    judge_stated(rest, number, stated)
-}
-
-// The current block: it begins behind `start` bytes of the output, and has `used` record words so far.
-struct Current {
-    start: Bytes,
-    used: Words,
-}
-
-// The bytes of the output up to the end of the current block, its checksum among them.
-fn sealed_bytes(current: Current) -> Bytes
-    requires { ⌜ (current .used .0 ≤ mostRecordWords) × (current .start .0 ≤ countLimit) ⌝ }
-    ensures { λ r. ⌜ r .0 ≡ sealedBytes current ⌝ }
-{
-    let start = current.start.0;
-    let all = current.used.0 + 2;
-    let end = start + units::bytes_of_words(Words(all)).0;
-    Bytes(end)
-}
-
-// The block that a record of `k` words goes into: the current one if it fits, else a new one.
-fn room_for(current: Current, k: Words) -> Current
-    requires { ⌜ (current .used .0 ≤ mostRecordWords) × (k .0 ≤ mostRecordWords) × (current .start .0 ≤ countLimit) ⌝ }
-    ensures { λ r. ⌜ r ≡ roomFor current (k .0) ⌝ }
-{
-    let used = current.used.0;
-    let size = k.0;
-    let filled = used + size;
-    if filled <= words::MOST_RECORD_WORDS {
-        return current;
-    }
-    Current {
-        start: sealed_bytes(current),
-        used: Words(0),
-    }
-}
-
-// The current block with a record of `k` words more.
-fn with_record(current: Current, k: Words) -> Current
-    requires { ⌜ (current .used .0 ≤ mostRecordWords) × (k .0 ≤ mostRecordWords) ⌝ }
-    ensures { λ r. ⌜ r ≡ withRecord current (k .0) ⌝ }
-{
-    let start = current.start.0;
-    let used = current.used.0 + k.0;
-    Current {
-        start: Bytes(start),
-        used: Words(used),
-    }
 }
 
 // The current block once the records of an accepted block are packed.
@@ -153,22 +46,9 @@ fn count_records(block: &[u8], current: Current) -> Current
         if n == 0 {
             return to;
         }
-        to = with_record(room_for(to, Words(n)), Words(n));
+        to = packing::with_record(packing::room_for(to, Words(n)), Words(n));
         at += n;
     }
-}
-
-// The bytes of all blocks so far; a current block without a record has none.
-fn bytes_to(current: Current) -> Bytes
-    requires { ⌜ (current .used .0 ≤ mostRecordWords) × (current .start .0 ≤ countLimit) ⌝ }
-    ensures { λ r. ⌜ r .0 ≡ bytesTo current ⌝ }
-{
-    let used = current.used.0;
-    let start = current.start.0;
-    if used == 0 {
-        return Bytes(start);
-    }
-    sealed_bytes(current)
 }
 
 // Judges the blocks of a slice, and counts the bytes of their records packed again.
@@ -185,7 +65,7 @@ fn judge_blocks(slice: &[u8]) -> Measured
     };
     while at < end {
         let rest = &slice[at..];
-        match judge_next(rest, number) {
+        match block_slice::judge_next(rest, number) {
             Measured::Wrong(r) => return Measured::Wrong(r),
             Measured::Size(size) => {
                 let k = size.0;
@@ -195,7 +75,7 @@ fn judge_blocks(slice: &[u8]) -> Measured
             }
         }
     }
-    Measured::Size(bytes_to(current))
+    Measured::Size(packing::bytes_to(current))
 }
 
 // Seals the current block where it stands in the output.
@@ -214,7 +94,7 @@ fn make_room(out: &mut [u8], current: Current, k: Words) -> Current
     ensures { λ r. ⌜ RoomMade (now (out .entry)) current (k .0) (now (out .exit)) r ⌝ }
 {
     let start = current.start.0;
-    let next = room_for(current, k);
+    let next = packing::room_for(current, k);
     // It is still the same block.
     if next.start.0 == start {
         return next;
@@ -234,7 +114,7 @@ fn put_record(whole: &[u8], out: &mut [u8], current: Current) -> Current
     let before = room.used.0 + 1;
     let at = start + units::bytes_of_words(Words(before)).0;
     words::write_bytes(whole, out, Bytes(at));
-    with_record(room, k)
+    packing::with_record(room, k)
 }
 
 // Puts the records of an accepted block behind those that stand in the output.
@@ -268,7 +148,7 @@ fn write_blocks(slice: &[u8], out: &mut [u8])
     };
     while at < total {
         let rest = &slice[at..];
-        let size = units::bytes_of_words(stated_words(rest)).0;
+        let size = units::bytes_of_words(block_slice::stated_words(rest)).0;
         current = put_records(&rest[..size], out, current);
         at += size;
     }
@@ -311,18 +191,7 @@ pub fn numbers(r: Repacked) -> Answer
 {
     match r {
         Repacked::Blocks(size) => units::sized(0, size),
-        Repacked::Refused(why) => refusal_numbers(why),
+        Repacked::Refused(why) => block_slice::refusal_numbers(why),
         Repacked::Short(size) => units::sized(50, size),
-    }
-}
-
-// The four numbers of a slice's refusal.
-fn refusal_numbers(r: SliceRefusal) -> Answer
-    ensures { λ s. ⌜ (s ≡ sliceRefusalOf r) × (s .a < 65536) ⌝ }
-{
-    match r {
-        SliceRefusal::Long => units::row(52, 0, 0, 0),
-        SliceRefusal::Cut(number) => units::row(51, number, 0, 0),
-        SliceRefusal::Block(own) => block::refusal_numbers(own),
     }
 }

@@ -5,8 +5,9 @@ use denote.Ref.{now}
 use Rattle.units.proofs.Packing.{fitted-is}
 use Rattle.words.specs.Outcomes.{leaves}
 use Rattle.words.proofs.Laws.{all-below}
-use Rattle.repacking.specs.Blocks.{blocksIn, recordsIn}
-use Rattle.repacking.specs.Packing.{repacked, repack}
+use Rattle.block_slice.specs.Blocks.{blocksIn, recordsIn}
+use Rattle.packing.specs.Packing.{repacked}
+use Rattle.repacking.specs.Repacking.{repack}
 use Rattle.printed.proofs.Outcome.{blocks-bound, ended, slice-row}
 use Rattle.printed.proofs.print_blocks.Statement.{statement}
 use Rattle.printed.proofs.print_blocks.Tie as tie

@@ -7,8 +7,9 @@ use Rattle.words.specs.Words.{wordsOf, mostRecordWords}
 use Rattle.words.proofs.Laws.{all-below}
 use Rattle.block.specs.Records.{recordsOf}
 use Rattle.block_steps.proofs.Loops.{Loop, Turn, loop-start, turn, loop-on, loop-end}
-use Rattle.repacking.specs.Current.{currentAfter}
-use Rattle.repacking.proofs.Counting.{room-at, Counting, counted}
+use Rattle.packing.specs.Current.{currentAfter}
+use Rattle.packing.proofs.Filling.{room-at}
+use Rattle.repacking.proofs.Counting.{Counting, counted}
 use Rattle.repacking.proofs.count_records.Statement.{statement}
 use Rattle.repacking.proofs.count_records.Tie as tie
 

@@ -8,8 +8,8 @@ use denote.Ref.{now}
 use Rattle.words.specs.Words.{Below}
 use Rattle.words.proofs.Laws.{all-below}
 use Rattle.words.proofs.Lists.{all-take, all-drop}
-use Rattle.repacking.specs.Cases.{measuredOf}
-use Rattle.repacking.proofs.Slices.{FirstIs}
+use Rattle.block_slice.specs.Cases.{measuredOf}
+use Rattle.block_slice.proofs.Slices.{FirstIs}
 use Rattle.repacking.proofs.Judging.{Judging, judging-start, all-judged, judged-stop, first, countable, judged-on}
 use Rattle.repacking.proofs.judge_blocks.Statement.{statement}
 use Rattle.repacking.proofs.judge_blocks.Tie as tie

@@ -5,7 +5,7 @@ use borrow.Author.Needs.{needs}
 use lib.ListN.{length}
 use Rattle.units.specs.Units.{bytesOfWords}
 use Rattle.words.specs.Words.{mostRecordWords}
-use Rattle.repacking.specs.Current.{countLimit}
+use Rattle.packing.specs.Current.{countLimit}
 use Rattle.repacking.proofs.Writing.{recordStart, can-seal, room-is, put-room, record-put}
 use Rattle.repacking.proofs.put_record.Statement.{statement}
 use Rattle.repacking.proofs.put_record.Tie as tie

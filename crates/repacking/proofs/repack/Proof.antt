@@ -4,7 +4,7 @@ use borrow.Author.Needs.{needs}
 use denote.Ref.{now}
 use Rattle.words.specs.Words.{Below}
 use Rattle.words.proofs.Laws.{all-below}
-use Rattle.repacking.specs.Cases.{measuredOf}
+use Rattle.block_slice.specs.Cases.{measuredOf}
 use Rattle.repacking.proofs.Outcome.{too-long, within-limit, block-refused, promised}
 use Rattle.repacking.proofs.repack.Statement.{statement}
 use Rattle.repacking.proofs.repack.Tie as tie

@@ -6,7 +6,7 @@ use lib.Seq.{take-all, length-take-le}
 use denote.Ref.{now}
 use Rattle.units.specs.Units.{bytesOfWords}
 use Rattle.words.proofs.Laws.{all-below}
-use Rattle.repacking.specs.Current.{currentAfter}
+use Rattle.packing.specs.Current.{currentAfter}
 use Rattle.repacking.proofs.Writing.{sealed-finished}
 use Rattle.repacking.proofs.Rewriting.{Rewriting, NextBlock, rewriting-start, next-block, room-left, last-fits, rewritten}
 use Rattle.repacking.proofs.write_blocks.Statement.{statement}

@@ -4,10 +4,10 @@ use native.Mathlib.Omega.{arith}
 use borrow.Author.Tests.{le-leb, lt-leb}
 use borrow.Author.Needs.{needs}
 use Rattle.words.specs.Words.{mostRecordWords}
-use Rattle.repacking.specs.declared.Current.{Current}
-use Rattle.repacking.specs.Current.{currentAt, sealedBytes, roomFor}
-use Rattle.repacking.proofs.room_for.Statement.{statement}
-use Rattle.repacking.proofs.room_for.Tie as tie
+use Rattle.packing.specs.declared.Current.{Current}
+use Rattle.packing.specs.Current.{currentAt, sealedBytes, roomFor}
+use Rattle.packing.proofs.room_for.Statement.{statement}
+use Rattle.packing.proofs.room_for.Tie as tie
 
 -- the current block has room for k words, or a new one is begun behind it
 module _ (p : Current) (k : ℕ) where

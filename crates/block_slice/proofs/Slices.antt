@@ -18,8 +18,8 @@ use Rattle.words.specs.Words.{wordsOf, word, joined, All, mostWords}
 use Rattle.words.proofs.Laws.{length-wordsOf}
 use Rattle.block.specs.Judging.{judged, Accepted}
 use Rattle.block.proofs.Exact.{frame-ok}
-use Rattle.repacking.specs.Blocks.{mostBytes, wrongFirst, judgeStated, judgeNext, before, walkBlocks, blocksIn}
-use Rattle.repacking.specs.Rules.{IsSlice}
+use Rattle.block_slice.specs.Blocks.{mostBytes, wrongFirst, judgeStated, judgeNext, before, walkBlocks, blocksIn}
+use Rattle.block_slice.specs.Rules.{IsSlice}
 
 -- ---- one block
 

@@ -2,9 +2,9 @@ use mathlib.Core.Path.{_≡_}
 use Prim.Native.Nat.{ℕ, _≤_}
 use lib.Dec.{ltb}
 use borrow.Author.Tests.{lt-ltb, le-ltb}
-use Rattle.repacking.specs.Blocks.{wrongFirst}
-use Rattle.repacking.proofs.wrong_first.Statement.{statement}
-use Rattle.repacking.proofs.wrong_first.Tie as tie
+use Rattle.block_slice.specs.Blocks.{wrongFirst}
+use Rattle.block_slice.proofs.wrong_first.Statement.{statement}
+use Rattle.block_slice.proofs.wrong_first.Tie as tie
 
 -- the last of the two tests decides
 last : (stated : ℕ) → 18 ≤ stated → ltb 8000 stated ≡ wrongFirst stated

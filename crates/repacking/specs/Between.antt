@@ -1,46 +1,16 @@
--- The current block, as the code goes from record to record, and what stands in the output once it has all records. For contracts inside the crate only.
+-- What the functions of this crate say to each other: what stands in the output once it has all records.
 use Prim.Native.Nat.{ℕ, _+_, _*_, _≤_, _<_}
 use mathlib.Core.Path.{_≡_}
-use mathlib.Core.List.{List, [], _∷_, _++_}
-use lib.Dec.{leb, eqb}
+use mathlib.Core.List.{List, _∷_, _++_}
 use lib.ListN.{length, drop}
 use lib.Seq.{sets}
-use Rattle.units.specs.Choice.{if_then_else_}
 use Rattle.units.specs.Units.{bytesOfWords}
 use Rattle.units.specs.Answers.{Verdict, passed, onward}
 use Rattle.words.specs.Words.{wordsOf, words, joined, mostRecordWords}
-use Rattle.repacking.specs.declared.Current.{Current}
-use Rattle.repacking.specs.Blocks.{mostBytes, walkBlocks, recordsIn}
-use Rattle.repacking.specs.Packing.{onto, packed, blocksOf, repacked}
-
--- a bound on counts of bytes, so that no sum overflows; 64,000 bytes of blocks never come near it, however they are packed
-abbrev pub countLimit : ℕ
-countLimit = 1000000
-
--- the block that begins behind `start` bytes of the output and has `used` record words
-abbrev pub currentAt : ℕ → ℕ → Current
-currentAt start used = record { start = record { 0 = start }; used = record { 0 = used } }
-
--- the bytes up to its end, its length word and checksum among them
-abbrev pub sealedBytes : Current → ℕ
-sealedBytes p = p .start .0 + bytesOfWords (p .used .0 + 2)
-
--- "into the current block if it fits, else into a new one": the block that a record of k words goes into
-unfoldable pub roomFor : Current → ℕ → Current
-roomFor p k = if leb (p .used .0 + k) mostRecordWords then p else currentAt (sealedBytes p) 0
-
--- the current block with a record of k words more
-abbrev pub withRecord : Current → ℕ → Current
-withRecord p k = currentAt (p .start .0) (p .used .0 + k)
-
--- the current block once these records are packed
-unfoldable pub currentAfter : Current → List (List ℕ) → Current
-currentAfter p [] = p
-currentAfter p (r ∷ rs) = currentAfter (withRecord (roomFor p (length r)) (length r)) rs
-
--- the bytes of all blocks so far; a current block without a record has none
-unfoldable pub bytesTo : Current → ℕ
-bytesTo p = if eqb (p .used .0) 0 then p .start .0 else sealedBytes p
+use Rattle.block_slice.specs.Blocks.{mostBytes, walkBlocks, recordsIn}
+use Rattle.packing.specs.declared.Current.{Current}
+use Rattle.packing.specs.Current.{countLimit, sealedBytes, roomFor, currentAfter}
+use Rattle.packing.specs.Packing.{onto, packed, blocksOf, repacked}
 
 -- the record words that stand in the current block
 abbrev pub standing : List ℕ → Current → List ℕ

@@ -8,9 +8,9 @@ use borrow.Author.Needs.{needs}
 use lib.ListN.{length}
 use Rattle.units.specs.Answers.{answer, Verdict, refused}
 use Rattle.words.specs.Words.{wordsOf, word}
-use Rattle.repacking.specs.Blocks.{wrongFirst, judgeStated, judgeNext}
-use Rattle.repacking.proofs.judge_next.Statement.{statement}
-use Rattle.repacking.proofs.judge_next.Tie as tie
+use Rattle.block_slice.specs.Blocks.{wrongFirst, judgeStated, judgeNext}
+use Rattle.block_slice.proofs.judge_next.Statement.{statement}
+use Rattle.block_slice.proofs.judge_next.Tie as tie
 
 -- more than one byte is left, so the block states its words
 module _ (n : ℕ) (rest : List ℕ) {stated : ℕ} (more : length rest ≡ 1 → ⊥) (is : stated ≡ word (wordsOf rest) 1) where

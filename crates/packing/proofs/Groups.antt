@@ -9,7 +9,7 @@ use lib.Dec.{leb}
 use lib.ListN.{length, length-append}
 use Rattle.units.proofs.Choosing.{by-test}
 use Rattle.words.specs.Words.{joined, All, mostRecordWords}
-use Rattle.repacking.specs.Packing.{Group, onto, packed, groups}
+use Rattle.packing.specs.Packing.{Group, onto, packed, groups}
 
 -- a record that has words, and that a block has room for
 pub record Fits (r : List ℕ) : Type 0 where

@@ -3,8 +3,8 @@ use borrow.Author.Needs.{needs}
 use mathlib.Core.Path.{_∙_}
 use denote.Ref.{now}
 use Rattle.words.proofs.Laws.{length-wordsOf}
-use Rattle.repacking.proofs.stated_words.Statement.{statement}
-use Rattle.repacking.proofs.stated_words.Tie as tie
+use Rattle.block_slice.proofs.stated_words.Statement.{statement}
+use Rattle.block_slice.proofs.stated_words.Tie as tie
 
 pub stated-words-spec : {M : Type 1} → statement M
 stated-words-spec =

@@ -5,7 +5,7 @@ use Prim.Native.Nat.{ℕ, _≤_}
 use lib.ListN.{length}
 use Rattle.words.specs.Words.{joined, All}
 use Rattle.block.specs.Judging.{Accepted}
-use Rattle.repacking.specs.Blocks.{mostBytes}
+use Rattle.block_slice.specs.Blocks.{mostBytes}
 
 -- these bytes are these blocks: "blocks one after the other in a lent slice of up to 64,000 bytes", each accepted
 pub record IsSlice (slice : List ℕ) (blocks : List (List ℕ)) : Type 0 where

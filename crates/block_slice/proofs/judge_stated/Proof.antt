@@ -14,9 +14,9 @@ use Rattle.block.specs.Cases.{judgedOf, refusalOf}
 use Rattle.block.specs.declared.Refusal.{Refusal}
 use Rattle.block.specs.declared.Judged.{Judged}
 use Rattle.block.specs.declared.Judged.the-variants.{Records, Refused}
-use Rattle.repacking.specs.Blocks.{judgeStated}
-use Rattle.repacking.proofs.judge_stated.Statement.{statement}
-use Rattle.repacking.proofs.judge_stated.Tie as tie
+use Rattle.block_slice.specs.Blocks.{judgeStated}
+use Rattle.block_slice.proofs.judge_stated.Statement.{statement}
+use Rattle.block_slice.proofs.judge_stated.Tie as tie
 
 -- block n by its stated words, which are `size` bytes
 module _ (n stated : ℕ) (rest : List ℕ) {size : ℕ} (is : size ≡ bytesOfWords stated) where

@@ -1,14 +1,11 @@
--- Document 02, request 1: records packed into blocks again, and the call that writes them.
+-- Document 02, request 1: records packed into blocks.
 use Prim.Native.Nat.{ℕ, _+_}
 use mathlib.Core.List.{List, [], _∷_, map}
 use lib.Dec.{leb}
 use lib.ListN.{length}
 use Rattle.units.specs.Choice.{if_then_else_}
-use Rattle.units.specs.Answers.{passed, onward}
 use Rattle.words.specs.Words.{joined, mostRecordWords}
-use Rattle.words.specs.Outcomes.{Written, written}
 use Rattle.block.specs.Rules.{blockOf}
-use Rattle.repacking.specs.Blocks.{blocksIn, recordsIn}
 
 -- the records of a block
 abbrev pub Group : Type 0
@@ -38,7 +35,3 @@ blocksOf gs = joined (map blockOf gs)
 -- "it ... keeps the records in their order and writes blocks again"
 unfoldable pub repacked : List (List ℕ) → List ℕ
 repacked rs = blocksOf (groups rs)
-
--- "Success has a = bytes written"; the slice's refusals, then "50 output too short, last of all, a = bytes needed"
-unfoldable pub repack : List ℕ → List ℕ → Written
-repack slice out = written 50 out (onward (blocksIn slice) (λ blocks. passed (repacked (recordsIn blocks))))

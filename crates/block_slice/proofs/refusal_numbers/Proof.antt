@@ -1,5 +1,5 @@
-use Rattle.repacking.proofs.refusal_numbers.Statement.{statement}
-use Rattle.repacking.proofs.refusal_numbers.Tie as tie
+use Rattle.block_slice.proofs.refusal_numbers.Statement.{statement}
+use Rattle.block_slice.proofs.refusal_numbers.Tie as tie
 
 pub refusal-numbers-spec : {M : Type 1} → statement M
 refusal-numbers-spec =

@@ -8,8 +8,8 @@ use borrow.Author.Tests.{leb-true, leb-false}
 use lib.Dec.{leb}
 use lib.ListN.{length, length-append}
 use Rattle.words.specs.Words.{joined, All, mostRecordWords}
-use Rattle.repacking.specs.Packing.{Group, onto, packed, groups}
-use Rattle.repacking.proofs.Groups.{packed-current, packed-new, some-packed}
+use Rattle.packing.specs.Packing.{Group, onto, packed, groups}
+use Rattle.packing.proofs.Groups.{packed-current, packed-new, some-packed}
 
 -- the blocks that records take behind `used` words of the current one, which counts too
 cost : ℕ → List (List ℕ) → ℕ

@@ -2,10 +2,10 @@ use mathlib.Core.Path.{_≡_, _∙_}
 use native.Mathlib.Omega.{arith}
 use borrow.Author.Tests.{eq-eqb, ne-eqb}
 use borrow.Author.Needs.{needs}
-use Rattle.repacking.specs.declared.Current.{Current}
-use Rattle.repacking.specs.Current.{sealedBytes, bytesTo}
-use Rattle.repacking.proofs.bytes_to.Statement.{statement}
-use Rattle.repacking.proofs.bytes_to.Tie as tie
+use Rattle.packing.specs.declared.Current.{Current}
+use Rattle.packing.specs.Current.{sealedBytes, bytesTo}
+use Rattle.packing.proofs.bytes_to.Statement.{statement}
+use Rattle.packing.proofs.bytes_to.Tie as tie
 
 -- the current block has no record yet, or is sealed
 module _ (p : Current) where
