@@ -16,7 +16,7 @@ abbrev pub onto : List ℕ → List Group → List Group
 onto r [] = (r ∷ []) ∷ []
 onto r (g ∷ gs) = (r ∷ g) ∷ gs
 
--- "A record goes into the current block if it fits, else into a new one": what goes into the current one behind its `used` words, and into each new one
+-- "A record goes into the current block if it fits, else into a new one": first the records that go into the current one, behind its `used` words, maybe none; then those of each new one
 unfoldable pub packed : ℕ → List (List ℕ) → List Group
 packed used [] = [] ∷ []
 packed used (r ∷ rs) =

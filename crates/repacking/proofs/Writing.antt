@@ -37,7 +37,7 @@ module _ (out : List ℕ) (p : Current) where
       length-slice 1 (p .used .0 + 1) (wordsOf d) (omega (arith, length-wordsOf d, length-drop (p .start .0) out)) ∙ omega arith
 
   -- a record put behind it stands behind it
-  pub standing-put : (r : List ℕ) → recordStart p + bytesOfWords (length r) ≤ length out
+  standing-put : (r : List ℕ) → recordStart p + bytesOfWords (length r) ≤ length out
       → standing (sets out (recordStart p) (bytesOf r)) (withRecord p (length r)) ≡ standing out p ++ r
   standing-put r h =
       let s = p .start .0 in

@@ -35,7 +35,8 @@ module _ (n stated : ℕ) (rest : List ℕ) {size : ℕ} (is : size ≡ bytesOfW
     passes f = simp (le-ltb (length rest) (bytesOfWords stated) (omega arith), ← is, sym e ∙ ap judgedOf f)
 
 returns : tie.Need-returns
-returns c = runs-past _ (c .before .before .before .args .stated .0) _ (c .before .bytes-of-words .ensures) (c .if1 .taken)
+returns c = let a = c .before .before .before .args in
+    runs-past (a .number) (a .stated .0) (now (a .rest)) (c .before .bytes-of-words .ensures) (omega (arith, c .if1 .taken))
 
 returns-2 : tie.Need-returns-2
 returns-2 c = let j = c .before .before .before in let s = j .before .before .before .before .before in
