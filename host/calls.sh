@@ -18,6 +18,7 @@ done
 cp "$work/empty" "$work/names/a\\tb"
 expect_sentence block "$work/names/a\\tb" 'the text has no record'
 check "what cedar says of standard input" ends 1 'cedar: standard input: the text has no record' ./cedar block - </dev/null
+check "what cedar says of no standard input" ends 2 'cedar: standard input: cannot be read: it is closed' ./cedar list - <&-
 check "what cedar says of no name" ends 2 "cedar: the file's name is empty" ./cedar list ''
 check "what cedar says of a missing file" ends 2 "cedar: $work/missing: cannot be read: No such file or directory" \
     env LC_ALL=C ./cedar list "$work/missing"

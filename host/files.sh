@@ -54,7 +54,8 @@ for number in 0 01 -1 x ''; do
     check "cedar list of block '$number'" gives 2 'cedar: -b takes the number of a block, from 1' ./cedar list -b "$number" "$night"
 done
 page=$(./cedar help)
-check "cedar list -b without a number" gives 2 "$page" ./cedar list -b "$night"
+check "cedar list -b without a number" gives 2 'cedar: -b takes the number of a block, and then FILE' ./cedar list -b "$night"
+check "cedar lines -b without a file" gives 2 'cedar: -b takes the number of a block, and then FILE' ./cedar lines -b 1
 check "cedar repack -b" gives 2 "$page" ./cedar repack -b 1 "$night"
 check "cedar block -b" gives 2 "$page" ./cedar block -b 1 example/k.lines
 check "cedar repack of no block" gives 0 '' ./cedar repack "$work/empty"
@@ -76,7 +77,7 @@ after_k() {
 }
 
 past='the block runs past the end, or only one byte is left'
-length_wrong='the length of the block is odd, under 36 or over 16,000 bytes'
+first_wrong='word 1, which says how long the block is, is under 18 or over 8,000'
 after_k one-byte '\0'
 after_k two-bytes '\0\22'
 after_k three-bytes '\0\22\0'
@@ -91,7 +92,7 @@ for name in one-byte two-bytes three-bytes; do
     refuse "$name" 'refused 51 2 0 0' "block 2: $past"
 done
 for name in under-18 over-8000; do
-    refuse "$name" 'refused 1 0 0 0' "block 2: $length_wrong"
+    refuse "$name" 'refused 1 0 0 0' "block 2: $first_wrong"
 done
 {
     printf '\0\22'
@@ -112,7 +113,7 @@ check "cedar list of a cut block" gives 1 "cedar: $work/cut: block 5: $past" ./c
 check "cedar lines of a block after a cut one" gives 1 "cedar: $work/cut: block 5: $past" ./cedar lines -b 7 "$work/cut"
 expected 'refused 1 0 0 0'
 check "cedar lines of a block after a wrong length" \
-    gives 1 "cedar: $work/under-18: block 2: $length_wrong" ./cedar lines -b 3 "$work/under-18"
+    gives 1 "cedar: $work/under-18: block 2: $first_wrong" ./cedar lines -b 3 "$work/under-18"
 
 # A long file with two damaged blocks: the first of them is told.
 for number in $(seq 20); do
@@ -175,4 +176,26 @@ piped() {
 check "cedar list of a pipe with a name" gives 0 '' piped "$work/64000" "$work/rest" ./cedar list /dev/stdin
 expected 'refused 1 0 0 0'
 check "cedar list of a block and endless bytes" \
-    small gives 1 "cedar: standard input: block 2: $length_wrong" piped example/k.block /dev/zero ./cedar list -
+    small gives 1 "cedar: standard input: block 2: $first_wrong" piped example/k.block /dev/zero ./cedar list -
+{
+    printf '\0\0'
+    tail -c +3 "$work/64000"
+} >"$work/first-wrong"
+refuse first-wrong 'refused 1 0 0 0' "block 1: $first_wrong"
+
+# A block taken out of a file is that block, and the blocks so taken are the file: lines and back is the identity.
+for number in 1 2 3; do
+    ./cedar lines -b "$number" "$night" | ./cedar block -
+done >"$work/taken"
+check "the blocks of a file, one by one" cmp "$work/taken" "$night"
+
+# onto_itself WORD FILE: the output goes to the file that is read.
+onto_itself() {
+    ./cedar "$1" "$2" 1<>"$2"
+}
+
+for word in list lines repack; do
+    cp "$night" "$work/itself"
+    check "cedar $word onto its own file" \
+        ends 2 "cedar: $work/itself: is also where the output goes, and the shell may have emptied it" onto_itself "$word" "$work/itself"
+done
