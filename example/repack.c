@@ -35,7 +35,7 @@ static void say_refusal(uint64_t answer, const uint8_t *blocks)
         fprintf(stderr, "the file has over %d bytes\n", CEDAR_REPACK_MOST);
         break;
     case 51:
-        fprintf(stderr, "block %u runs past the end of the file\n", (unsigned)cedar_a(answer));
+        fprintf(stderr, "block %u is not all there\n", (unsigned)cedar_a(answer));
         break;
     default:
         fprintf(stderr, "block %u is refused\n", refused_block(blocks));

@@ -187,8 +187,11 @@ enum { CEDAR_REPACK_MOST = 64000 };
  * 1 to 9 do not tell which block it is: it is the first whose word 1 is under 18 or over 8,000, or that cedar_judge
  *   refuses when it is lent as many words as its word 1 says.
  * With blocks_length 0 the call succeeds, and writes nothing.
- * The output needs at most blocks_length bytes. With out_length 0, and any out but NULL, the call asks how many.
- * A sheet stays with the block that it was kept for: each block written starts with an empty one.
+ * The output needs at most blocks_length bytes. With out_length 0, and any out but NULL, 50 tells how many.
+ * Each block written is as long as its word 1 says, and the next one stands right behind it.
+ * No sheet is read or written. Values are taken as they stand, and for each block written a sheet is started anew.
+ *   The sheets of the blocks read belong to none of them, though cedar_undo may accept one: undo first what is to be
+ *   undone.
  * Bytes of the output past those written stay as they are.
  */
 uint64_t cedar_repack(const uint8_t *blocks, size_t blocks_length, uint8_t *out, size_t out_length);
