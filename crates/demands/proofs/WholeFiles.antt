@@ -1,23 +1,27 @@
 -- Repacking keeps the records, and makes the fewest blocks.
 use mathlib.Core.Logic.{_⊎_, inl, inr}
 use mathlib.Core.Path.{_≡_, refl, sym, ap, _∙_}
+use mathlib.Core.Bool.{false}
 use mathlib.Core.List.{List, [], _∷_, _++_, map, map-append, flatten}
 use Prim.Native.Nat.{ℕ, _+_, _≤_, _<_}
 use native.Mathlib.Omega.{arith}
-use borrow.Author.Tests.{lt-ltb, le-ltb}
-use lib.ListN.{length, length-map}
+use borrow.Author.Tests.{lt-ltb, le-ltb, eq-eqb, ne-eqb}
+use lib.Dec.{eqb}
+use lib.ListN.{length, take, length-map}
+use Rattle.units.specs.declared.Answer.{Answer}
+use Rattle.units.specs.Units.{bytesOfWords}
 use Rattle.units.specs.Answers.{answer, Verdict, passed, refused, onward}
-use Rattle.words.specs.Words.{framed, joined, All, Below, mostRecordWords}
+use Rattle.words.specs.Words.{wordsOf, word, framed, joined, All, Below, mostRecordWords}
 use Rattle.words.specs.Outcomes.{Written, written, leaves}
 use Rattle.words.proofs.Laws.{words-below, joined-append}
 use Rattle.words.proofs.Lists.{all-append, all-parts, all-mapped}
 use Rattle.words.proofs.Sealing.{framed-below}
 use Rattle.words.proofs.Writing.{written-either}
-use Rattle.block.specs.Judging.{Accepted}
+use Rattle.block.specs.Judging.{judged, Accepted}
 use Rattle.block.specs.Records.{recordsOf}
 use Rattle.block.specs.Rules.{blockOf, BlockRecord, IsBlock}
 use Rattle.block.proofs.Exact.{words-are}
-use Rattle.block_slice.specs.Blocks.{mostBytes, blocksIn, recordsIn}
+use Rattle.block_slice.specs.Blocks.{mostBytes, wrongFirst, judgeStated, judgeNext, blocksIn, recordsIn}
 use Rattle.block_slice.specs.Rules.{IsSlice}
 use Rattle.packing.specs.Packing.{Group, groups, repacked}
 use Rattle.repacking.specs.Repacking.{repack}
@@ -106,10 +110,49 @@ module _ (slice : List ℕ) (bs : List (List ℕ)) (bytes : Below 256 slice) (gi
 
 -- ---- what is taken
 
-pub block-by-block : BlockByBlock
+-- behind accepted blocks, the refusal of the next one
+next-told : (blocks : List (List ℕ)) (rest out : List ℕ) → All Accepted blocks → length (joined blocks ++ rest) ≤ mostBytes → 1 ≤ length rest → (r : Answer)
+    → judgeNext (1 + length blocks) rest ≡ refused r → repack (joined blocks ++ rest) out ≡ leaves r out
 unfolding repack blocksIn written
-block-by-block blocks rest out r each some short e =
+next-told blocks rest out each short some r e =
     simp (le-ltb mostBytes (length (joined blocks ++ rest)) short, blocks-past 1 r blocks rest each (blocks-stop (1 + length blocks) r rest some e))
+
+-- which that is, by what stands there
+module _ (n : ℕ) (rest : List ℕ) where
+  one-left : length rest ≡ 1 → judgeNext n rest ≡ refused (answer 51 n 0 0)
+  unfolding judgeNext
+  one-left h = simp (eq-eqb (length rest) 1 h)
+
+  module _ (two : 2 ≤ length rest) where
+    more : eqb (length rest) 1 ≡ false
+    more = ne-eqb (length rest) 1 (λ e. omega arith)
+
+    abbrev first : ℕ
+    first = word (wordsOf rest) 1
+
+    first-told : (first < 18) ⊎ (8000 < first) → judgeNext n rest ≡ refused (answer 1 0 0 0)
+    unfolding judgeNext wrongFirst
+    first-told (inl low) = simp (more, lt-ltb first 18 low)
+    first-told (inr high) = simp (more, le-ltb first 18 (omega arith), lt-ltb 8000 first high)
+
+    module _ (least : 18 ≤ first) (most : first ≤ 8000) where
+      past-told : length rest < bytesOfWords first → judgeNext n rest ≡ refused (answer 51 n 0 0)
+      unfolding judgeNext wrongFirst judgeStated
+      past-told h = simp (more, le-ltb first 18 least, le-ltb 8000 first most, lt-ltb (length rest) (bytesOfWords first) h)
+
+      own-told : {r : Answer} → bytesOfWords first ≤ length rest → judged (take (bytesOfWords first) rest) ≡ refused r → judgeNext n rest ≡ refused r
+      unfolding judgeNext wrongFirst judgeStated
+      own-told h e = simp (more, le-ltb first 18 least, le-ltb 8000 first most, le-ltb (length rest) (bytesOfWords first) h, e)
+
+pub block-by-block : BlockByBlock
+block-by-block blocks rest out each short =
+    let n = 1 + length blocks in
+    let told = next-told blocks rest out each short in (
+      λ h. told (omega arith) _ (one-left n rest h),
+      λ h e. told (omega arith) _ (first-told n rest h e),
+      λ h least most e. told (omega arith) _ (past-told n rest h least most e),
+      λ r least most h e. told (omega arith) r (own-told n rest (omega arith) least most h e),
+    )
 
 pub bytes-needed : BytesNeeded
 bytes-needed slice out other bytes success =
@@ -129,7 +172,7 @@ pub blocks-again : BlocksAgain
 blocks-again slice out bytes success =
     let b = its-blocks slice out bytes success in
     let is = bytes-are slice (b .0) bytes (b .1) out success in (
-      ap length is ∙ sym (ap (λ w. w .answer .a) (all-written slice (b .0) bytes (b .1) out success)),
+      rw is (all-written slice (b .0) bytes (b .1) out success),
       (b .0, again (b .0), record { bytes = bytes; success = success; given = b .1; made = rw is (made-slice slice (b .0) bytes (b .1)) }),
     )
 

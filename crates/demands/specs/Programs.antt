@@ -1,11 +1,20 @@
 -- What the programs write: of an array that was printed into, the bytes before the place that the printing gives.
 use mathlib.Core.Path.{_≡_}
 use mathlib.Core.List.{List}
-use Prim.Native.Nat.{ℕ}
-use lib.ListN.{take}
+use Prim.Native.Nat.{ℕ, _≤_}
+use lib.Dec.{eqb}
+use lib.ListN.{length, take}
+use Rattle.units.specs.Choice.{if_then_else_}
+use Rattle.words.specs.Words.{Below}
+use Rattle.words.specs.Outcomes.{Written}
+use Rattle.write_lines.specs.Text.{toLines}
+use Rattle.read_text.specs.Block.{toBlock}
+use Rattle.repacking.specs.Repacking.{repack}
+use Rattle.report.specs.Refusal.{refusalLine}
 use Rattle.printed.specs.Listing.{listingOf}
 use Rattle.printed.specs.Printed.{linesPrinted, blockPrinted, blocksPrinted}
 use Rattle.printed.specs.Promises.{PrintsListing, PrintsLines, PrintsBlock, PrintsBlocks}
+use Rattle.demands.specs.Demand2.{bytesIn}
 
 -- `listing`: "It prints for each record ... For a refusal it prints only one line"
 abbrev pub ListingWritten : Type 0
@@ -22,3 +31,21 @@ BlockWritten = (text out after : List ℕ) (end : ℕ) → PrintsBlock text out 
 -- `repack`
 abbrev pub BlocksWritten : Type 0
 BlocksWritten = (slice out after : List ℕ) (end : ℕ) → PrintsBlocks slice out end after → take end after ≡ blocksPrinted slice
+
+-- ---- and that is what the call of the same name gives, into an output that has always room
+
+-- the bytes that a call has written, or the line of its refusal
+abbrev pub printedOf : Written → List ℕ
+printedOf w = if eqb (w .answer .n) 0 then bytesIn w else refusalLine (w .answer)
+
+-- `block_to_lines` and block to lines
+abbrev pub LinesAsCalled : Type 0
+LinesAsCalled = (block out : List ℕ) → Below 256 block → 55971 ≤ length out → linesPrinted block ≡ printedOf (toLines block out)
+
+-- `lines_to_block` and lines to block
+abbrev pub BlockAsCalled : Type 0
+BlockAsCalled = (text out : List ℕ) → 16000 ≤ length out → blockPrinted text ≡ printedOf (toBlock text out)
+
+-- `repack` and repacking
+abbrev pub BlocksAsCalled : Type 0
+BlocksAsCalled = (slice out : List ℕ) → Below 256 slice → 64000 ≤ length out → blocksPrinted slice ≡ printedOf (repack slice out)

@@ -1,16 +1,17 @@
 -- Document 02, request 1, "Whole files": what repacking keeps, and that no other packing has fewer blocks.
-use mathlib.Core.Logic.{_↔_}
+use mathlib.Core.Logic.{_↔_, _⊎_}
 use mathlib.Core.Path.{_≡_}
 use mathlib.Core.List.{List, [], _∷_, _++_, flatten}
 use Prim.Native.Nat.{ℕ, _+_, _≤_, _<_}
-use lib.ListN.{length}
+use lib.ListN.{length, take}
 use Rattle.units.specs.declared.Answer.{Answer}
 use Rattle.units.specs.Answers.{answer, passed, refused}
-use Rattle.words.specs.Words.{joined, All, Below, mostRecordWords}
+use Rattle.units.specs.Units.{bytesOfWords}
+use Rattle.words.specs.Words.{wordsOf, word, joined, All, Below, mostRecordWords}
 use Rattle.words.specs.Outcomes.{leaves}
-use Rattle.block.specs.Judging.{Accepted}
+use Rattle.block.specs.Judging.{judged, Accepted}
 use Rattle.block.specs.Records.{recordsOf}
-use Rattle.block_slice.specs.Blocks.{mostBytes, judgeNext, blocksIn, recordsIn}
+use Rattle.block_slice.specs.Blocks.{mostBytes, blocksIn, recordsIn}
 use Rattle.block_slice.specs.Rules.{IsSlice}
 use Rattle.packing.specs.Packing.{Group}
 use Rattle.repacking.specs.Repacking.{repack}
@@ -22,11 +23,17 @@ use Rattle.demands.specs.Demand2.{bytesIn, wrote}
 abbrev pub SlicesExactly : Type 0
 SlicesExactly = (slice : List ℕ) (blocks : List (List ℕ)) → (blocksIn slice ≡ passed blocks) ↔ IsSlice slice blocks
 
--- "then block by block": behind accepted blocks, the refusal of the next one is told, whatever stands behind it
+-- "then block by block": behind accepted blocks the refusal of the next one is told, whatever stands behind it. 51 with its number when "only one byte is left";
+-- "a first word under 18 or over 8,000 is 1, before 51"; 51 "when the block runs past the slice"; then "the block's own refusals, which keep their numbers"
 abbrev pub BlockByBlock : Type 0
 BlockByBlock =
-    (blocks : List (List ℕ)) (rest out : List ℕ) (r : Answer) → All Accepted blocks → 1 ≤ length rest → length (joined blocks ++ rest) ≤ mostBytes →
-    judgeNext (1 + length blocks) rest ≡ refused r → repack (joined blocks ++ rest) out ≡ leaves r out
+    (blocks : List (List ℕ)) (rest out : List ℕ) → All Accepted blocks → length (joined blocks ++ rest) ≤ mostBytes →
+    let w = repack (joined blocks ++ rest) out in let cut = leaves (answer 51 (1 + length blocks) 0 0) out in
+    let first = word (wordsOf rest) 1 in let size = bytesOfWords first in
+    (length rest ≡ 1 → w ≡ cut)
+    × (2 ≤ length rest → (first < 18) ⊎ (8000 < first) → w ≡ leaves (answer 1 0 0 0) out)
+    × (2 ≤ length rest → 18 ≤ first → first ≤ 8000 → length rest < size → w ≡ cut)
+    × ((r : Answer) → 18 ≤ first → first ≤ 8000 → size ≤ length rest → judged (take size rest) ≡ refused r → w ≡ leaves r out)
 
 -- "50 output too short, last of all, a = bytes needed": a is what a success writes, and any output of that many bytes has room
 abbrev pub BytesNeeded : Type 0
@@ -47,11 +54,11 @@ pub record Repacking (slice out : List ℕ) (blocks result : List (List ℕ)) : 
   pub given : IsSlice slice blocks
   pub made : IsSlice (bytesIn (repack slice out)) result
 
--- "it takes blocks ... and writes blocks again": each success is of accepted blocks, and has written accepted blocks, as many bytes as it says
+-- "it takes blocks ... and writes blocks again": each success is of accepted blocks, and has written accepted blocks; "Success has a = bytes written", and all other bytes stay
 abbrev pub BlocksAgain : Type 0
 BlocksAgain =
     (slice out : List ℕ) → Below 256 slice → let w = repack slice out in w .answer .n ≡ 0 →
-    (length (bytesIn w) ≡ w .answer .a) × ((blocks result : List (List ℕ)) × Repacking slice out blocks result)
+    (w ≡ wrote (bytesIn w) out) × ((blocks result : List (List ℕ)) × Repacking slice out blocks result)
 
 -- "Each repacked block starts with an empty sheet; demand 3 still speaks of one block": each is bytes that the judge accepts, which is what demand 3 asks
 abbrev pub StartsAnew : Type 0

@@ -265,8 +265,9 @@ repackTrials =
     -- "An empty slice gives no blocks"; "up to 64,000 bytes"
     ∷ (repackBlocks [] 0, answer 0 0 0 0)
     ∷ (repackBlocks fullSlice 64000, answer 0 64000 0 0)
-    -- "into the current block if it fits, else into a new one": 16 and 7,982 words make one of 8,000, and 16 and 7,983 stay two
+    -- "into the current block if it fits, else into a new one": 16 and 7,982 words, in either order, make one of 8,000, and 16 and 7,983 stay two
     ∷ (repackBlocks (leastBlock ++ prologueBlock 7982) 16000, answer 0 16000 0 0)
+    ∷ (repackBlocks (prologueBlock 7982 ++ leastBlock) 16000, answer 0 16000 0 0)
     ∷ (repackBlocks (leastBlock ++ prologueBlock 7983) 16006, answer 0 16006 0 0)
     ∷ [])
 
