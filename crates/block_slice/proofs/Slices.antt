@@ -12,8 +12,8 @@ use lib.ListN.{length, take, drop, length-append, take-append-drop}
 use lib.Seq.{drop-nil, take-append-seam, drop-append-seam}
 use Rattle.units.specs.declared.Answer.{Answer}
 use Rattle.units.specs.Units.{bytesOfWords}
-use Rattle.units.specs.Answers.{answer, Verdict, passed, refused, onward}
-use Rattle.units.proofs.Verdicts.{never-passed, else-passed, or-off}
+use Rattle.units.specs.Answers.{answer, passed, refused}
+use Rattle.units.proofs.Verdicts.{else-passed, onward-passed, or-off}
 use Rattle.words.specs.Words.{wordsOf, word, joined, All, mostWords}
 use Rattle.words.proofs.Laws.{length-wordsOf}
 use Rattle.block.specs.Judging.{judged, Accepted}
@@ -22,11 +22,6 @@ use Rattle.block_slice.specs.Blocks.{mostBytes, wrongFirst, judgeStated,
 use Rattle.block_slice.specs.Rules.{IsSlice}
 
 -- ---- one block
-
--- what is judged and then passes was passed on first
-onward-passed : {A B : Type 0} (v : Verdict A) (f : A → Verdict B) (y : B) → onward v f ≡ passed y → (x : A) × (v ≡ passed x) × (f x ≡ passed y)
-onward-passed (passed x) f y e = (x, refl, e)
-onward-passed (refused r) f y e = absurd (never-passed e)
 
 -- the first block of what is left: k bytes of it, which are accepted
 pub record FirstIs (rest : List ℕ) (k : ℕ) : Type 0 where

@@ -14,9 +14,9 @@ use Rattle.units.specs.Answers.{answer, Verdict, passed, refused, onward}
 use Rattle.words.specs.Words.{wordsOf, word, framed, joined, All, Below, mostRecordWords}
 use Rattle.words.specs.Outcomes.{Written, written, leaves}
 use Rattle.words.proofs.Laws.{words-below, joined-append}
-use Rattle.words.proofs.Lists.{all-append, all-parts, all-mapped}
+use Rattle.words.proofs.Lists.{all-append, all-parts, all-mapped, all-both}
 use Rattle.words.proofs.Sealing.{framed-below}
-use Rattle.words.proofs.Writing.{written-either}
+use Rattle.words.proofs.Writing.{too-short, written-either}
 use Rattle.block.specs.Judging.{judged, Accepted}
 use Rattle.block.specs.Records.{recordsOf}
 use Rattle.block.specs.Rules.{blockOf, BlockRecord, IsBlock}
@@ -28,7 +28,7 @@ use Rattle.repacking.specs.Repacking.{repack}
 use Rattle.block_slice.proofs.Slices.{blocks-stop, blocks-past, only-slices, every-slice}
 use Rattle.packing.proofs.Groups.{groups-join, new-late}
 use Rattle.packing.proofs.Fewest.{fewest}
-use Rattle.repacking.proofs.Made.{Good, Whole, all-both, each-good, records-good, new-groups, groups-whole, made-accepted, made-groups}
+use Rattle.repacking.proofs.Made.{Good, Whole, each-good, records-good, new-groups, groups-whole, made-accepted, made-groups}
 use Rattle.block_slice.proofs.Known.{KnownSlice, slice-known, row-not-0}
 use Rattle.repacking.proofs.Known.{repacked-bound}
 use Rattle.demands.specs.Demand2.{bytesIn, wrote}
@@ -43,10 +43,6 @@ slices-exactly slice blocks = (only-slices slice blocks, every-slice slice block
 when-slice : (slice out : List ℕ) (bs : List (List ℕ)) → IsSlice slice bs → repack slice out ≡ written 50 out (passed (repacked (recordsIn bs)))
 unfolding repack
 when-slice slice out bs h = rw (every-slice slice bs h)
-
-without-room : (bytes out : List ℕ) → length out < length bytes → written 50 out (passed bytes) ≡ leaves (answer 50 (length bytes) 0 0) out
-unfolding written
-without-room bytes out h = simp (lt-ltb (length out) (length bytes) h)
 
 -- success: all of its bytes were written
 when-written : (out bytes : List ℕ) {w : Written} → w ≡ written 50 out (passed bytes) → w .answer .n ≡ 0 → w ≡ wrote bytes out
@@ -160,7 +156,7 @@ bytes-needed slice out other bytes success =
     let needed = repacked (recordsIn (b .0)) in
     let w = all-written slice (b .0) bytes (b .1) out success in
     let it = when-slice slice other (b .0) (b .1) in
-    rw w ((λ h. it ∙ without-room needed other h), (λ h. ap (λ x. x .answer) (it ∙ with-room 50 needed other h)))
+    rw w ((λ h. it ∙ sym (too-short 50 other needed (length needed) refl h)), (λ h. ap (λ x. x .answer) (it ∙ with-room 50 needed other h)))
 
 pub empty-slice : EmptySlice
 unfolding repacked groups joined flatten

@@ -1,41 +1,24 @@
 -- A record passes exactly where it keeps the rules.
-use mathlib.Core.Path.{_≡_, refl, sym, ap, subst, _∙_}
-use mathlib.Core.Bool.{Bool, true, false}
-use mathlib.Core.List.{List, [], _∷_, _++_}
-use Prim.Native.Nat.{ℕ, suc, _+_, _-_, _/_, _%_, _≤_, _<_}
+use mathlib.Core.Path.{_≡_, sym, ap, subst, _∙_}
+use mathlib.Core.Bool.{true}
+use mathlib.Core.List.{List, _++_}
+use Prim.Native.Nat.{ℕ, _+_, _-_, _/_, _%_, _≤_, _<_}
 use native.Mathlib.Omega.{arith}
 use borrow.Author.Tests.{leb-true, eqb-true, le-leb, eq-eqb}
 use lib.Dec.{leb}
 use lib.ListN.{length, take, length-append, List·getD-append}
 use lib.Seq.{slice, length-take-le, getD-take, take-take, take-append-le, length-slice}
-use Rattle.units.specs.Choice.{if_then_else_}
 use Rattle.units.proofs.Verdicts.{and-on}
-use Rattle.words.specs.Words.{word, All, Below}
+use Rattle.words.specs.Words.{word, Below}
 use Rattle.words.proofs.Lists.{all-take}
+use Rattle.words.proofs.Scans.{all-pass, pass-all}
 use Rattle.record.specs.Judging.{cardWord}
-use Rattle.words.specs.Scans.{passing, within, wordWithin, isZero}
+use Rattle.words.specs.Scans.{within, wordWithin, isZero}
 use Rattle.counts.specs.Counts.{wordsNeeded}
 use Rattle.record.specs.Rules.{CardWord, CardsOk, DataOk, KindOk, catalogue, header, dataRecord, RecordOk}
 use Rattle.counts.specs.Rules.{CountsOk}
 use Rattle.counts.proofs.FourCounts.{counts-take, counts-append}
 use Rattle.record.proofs.Passed.{CardsPassed, DataPassed, RecordPassed, a-catalogue, a-header, a-data}
-
--- ---- a scan that finds no offender, and the other way
-
-module _ (p : ℕ → Bool) (P : ℕ → Type 0) where
-  all-of : ((w : ℕ) → p w ≡ true → P w) → (l : List ℕ) → length l ≤ passing p l → All P l
-  unfolding passing
-  all-of s [] h = tt
-  all-of s (w ∷ ws) h = go (p w) refl h (all-of s ws)
-    where
-      go : (t : Bool) → p w ≡ t → suc (length ws) ≤ (if t then suc (passing p ws) else 0) → (length ws ≤ passing p ws → All P ws) → P w × All P ws
-      go true e k ih = (s w e, ih (omega arith))
-      go false e k ih = absurd (omega arith)
-
-  of-all : ((w : ℕ) → P w → p w ≡ true) → (l : List ℕ) → All P l → passing p l ≡ length l
-  unfolding passing
-  of-all s [] h = refl
-  of-all s (w ∷ ws) h = rw (s w (h .0)) (ap suc (of-all s ws (h .1)))
 
 card-word : (w : ℕ) → cardWord w ≡ true → CardWord w
 unfolding wordWithin
@@ -69,8 +52,8 @@ module _ (rest : List ℕ) (k : ℕ) (room : k ≤ length rest) where
       record {
         cards = k / 40 - 1;
         size = taken ∙ omega arith;
-        zeros = rw (take-take 40 k rest (t .least)) (all-of isZero (λ w. w ≡ 0) (λ w e. eqb-true w 0 e) (slice (z - 1) 40 rest) (omega (arith, c .zeros)));
-        printed = rw (taken, take-take k k rest (omega arith)) (all-of cardWord CardWord card-word (slice 40 k rest) (omega (arith, c .cards)));
+        zeros = rw (take-take 40 k rest (t .least)) (all-pass isZero (λ w. w ≡ 0) (λ w e. eqb-true w 0 e) (slice (z - 1) 40 rest) (omega (arith, c .zeros)));
+        printed = rw (taken, take-take k k rest (omega arith)) (all-pass cardWord CardWord card-word (slice 40 k rest) (omega (arith, c .cards)));
       }
 
   data-ok : DataPassed rest k → DataOk (take k rest)
@@ -107,8 +90,8 @@ module _ (r tail : List ℕ) (total : word r 1 ≡ length r) where
       record {
         total = List·getD-append r tail 0 0 (omega arith) ∙ total;
         right = record { least = omega arith; whole = omega arith; room = omega arith };
-        zeros = rw forty (omega (arith, of-all isZero (λ w. w ≡ 0) (λ w e. eq-eqb w 0 e) (slice (z - 1) 40 r) (c .zeros)));
-        cards = rw whole (omega (arith, of-all cardWord CardWord word-card (slice 40 (length r) r) (c .printed)));
+        zeros = rw forty (omega (arith, pass-all isZero (λ w. w ≡ 0) (λ w e. eq-eqb w 0 e) (slice (z - 1) 40 r) (c .zeros)));
+        cards = rw whole (omega (arith, pass-all cardWord CardWord word-card (slice 40 (length r) r) (c .printed)));
       }
 
   data-back : DataOk r → DataPassed (r ++ tail) (length r)

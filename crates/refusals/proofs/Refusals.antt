@@ -1,10 +1,9 @@
 -- The tables are computed.
-use mathlib.Core.Path.{_≡_, refl, ap}
+use mathlib.Core.Path.{_≡_, refl, sym, ap}
 use mathlib.Core.List.{List, flatten}
 use Prim.Native.Nat.{ℕ, _<_}
 use lib.ListN.{length, replicate}
-use Rattle.units.specs.Answers.{answer, refused}
-use borrow.Author.Tests.{lt-ltb}
+use Rattle.units.specs.Answers.{answer}
 use lib.Count.{ones, onesIn}
 use Rattle.units.specs.Decimal.{decimal}
 use Rattle.words.specs.Words.{wordsOf, bytesOf, xorAll, joined, framed}
@@ -34,6 +33,8 @@ use Rattle.amending.specs.Amending.{amendable, undoable, onBoth}
 use Rattle.block_slice.specs.Blocks.{wrongFirst, judgeStated, judgeNext, walkBlocks, blocksIn}
 use Rattle.packing.specs.Packing.{packed, groups, repacked}
 use Rattle.repacking.specs.Repacking.{repack}
+use Rattle.read_text.proofs.Outcome as text
+use Rattle.repacking.proofs.Outcome as packed-again
 use Rattle.refusals.specs.Questions.{AnsweredSo, turned, wordPut, cutTo}
 use Rattle.refusals.specs.Refusals.{statedBlocks, badBlocks, blockTrials, badTexts, textTrials, roomTrials, sheetTrials, amendTrials, undoTrials, badSlices, repackTrials, EveryRefusal}
 use Rattle.refusals.specs.Orders.{everyTwo, sizeOrder, checksumOrder, frameOrder, twoDataOrder, shortCatalogueOrder, cardsOrder, blockOrders, ownOrder, recordsOrder, linesOrders, onLine, dataLinesOrder, leftToRight, firstLineOrder, cardLinesOrder, blankLinesOrder, textOrders, amendOrders, undoOrders, startOrder, repackOrders, EveryOrder, LongFirst, LongSliceFirst}
@@ -54,24 +55,15 @@ every-refusal = tables .0
 pub every-order : EveryOrder
 every-order = tables .1
 
--- the length is tested before any line
-long-read : (lines : List ℕ) → 65536 < length lines → readText lines ≡ refused (answer 30 0 0 0)
-unfolding readText
-long-read lines h = simp (lt-ltb _ _ h)
-
--- and then nothing is built
+-- the length is tested before any line, and then nothing is built
 long-built : (lines out : List ℕ) → 65536 < length lines → toBlock lines out ≡ leaves (answer 30 0 0 0) out
 unfolding toBlock written
-long-built lines out h = simp (long-read lines h)
+long-built lines out h = simp (text.too-long lines h)
 
 pub long-first : LongFirst
 unfolding wordsIn
-long-first lines room h = (simp (long-read lines h), ap (λ (w : Written). w .answer) (long-built lines (replicate room 0) h))
+long-first lines room h = (simp (text.too-long lines h), ap (λ (w : Written). w .answer) (long-built lines (replicate room 0) h))
 
 -- so with a slice's length, before any block
-long-slice : (slice out : List ℕ) → 64000 < length slice → repack slice out ≡ leaves (answer 52 0 0 0) out
-unfolding repack blocksIn written
-long-slice slice out h = simp (lt-ltb _ _ h)
-
 pub long-slice-first : LongSliceFirst
-long-slice-first slice room h = ap (λ (w : Written). w .answer) (long-slice slice (replicate room 0) h)
+long-slice-first slice room h = ap (λ (w : Written). w .answer) (sym (packed-again.too-long slice (replicate room 0) h))

@@ -8,6 +8,7 @@ use lib.Seq.{drop-drop, append-snoc, length-take-le}
 use Rattle.units.specs.declared.Answer.{Answer}
 use Rattle.units.specs.Units.{bytesOfWords}
 use Rattle.units.specs.Answers.{Verdict, passed, refused, onward}
+use Rattle.units.proofs.Verdicts.{onward-same}
 use Rattle.words.specs.Words.{joined, All, Below, mostRecordWords}
 use Rattle.words.proofs.Lists.{all-append, all-take}
 use Rattle.words.proofs.Sealing.{length-framed}
@@ -52,16 +53,12 @@ pub record Judging (slice : List ℕ) (at number : ℕ) (p : Current) : Type 0 w
   pub number-most : 36 * number ≤ at + 36
   pub within : at ≤ length slice
 
-onward-onward : (v : Verdict (List (List ℕ))) → v ≡ onward v (λ bs. passed bs)
-onward-onward (passed bs) = refl
-onward-onward (refused r) = refl
-
 pub judging-start : (slice : List ℕ) → Judging slice 0 1 (currentAt 0 0)
 unfolding currentAfter flatten
 judging-start slice =
     record {
       done = [];
-      same = onward-onward (walkBlocks 0 1 slice);
+      same = onward-same (walkBlocks 0 1 slice);
       current = refl;
       each = tt;
       used = omega arith;

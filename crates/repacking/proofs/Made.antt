@@ -7,7 +7,7 @@ use lib.ListN.{length, length-append}
 use Rattle.units.specs.Units.{bytesOfWords}
 use Rattle.words.specs.Words.{joined, All, Below, mostRecordWords}
 use Rattle.words.proofs.Laws.{joined-append}
-use Rattle.words.proofs.Lists.{all-append, all-parts, all-map, all-mapped}
+use Rattle.words.proofs.Lists.{all-parts, all-map, all-mapped, all-both, all-flatten, flatten-all}
 use Rattle.words.proofs.Sealing.{length-framed}
 use Rattle.record.specs.Rules.{RecordOk}
 use Rattle.block.specs.Judging.{Accepted}
@@ -18,22 +18,6 @@ use Rattle.block_slice.specs.Blocks.{recordsIn}
 use Rattle.packing.specs.Packing.{Group, groups, blocksOf, repacked}
 use Rattle.packing.proofs.Groups.{Fits, NewGroups, groups-join, groups-new, new-each}
 use Rattle.packing.proofs.Fewest.{fewest}
-
--- ---- lists of lists
-
-all-flatten : {A : Type 0} (P : A → Type 0) (ls : List (List A)) → All P (flatten ls) → All (All P) ls
-unfolding flatten
-all-flatten P [] h = tt
-all-flatten P (l ∷ ls) h = let p = all-parts P l (flatten ls) h in (p .0, all-flatten P ls (p .1))
-
-flatten-all : {A : Type 0} (P : A → Type 0) (ls : List (List A)) → All (All P) ls → All P (flatten ls)
-unfolding flatten
-flatten-all P [] h = tt
-flatten-all P (l ∷ ls) h = all-append P l (flatten ls) (h .0) (flatten-all P ls (h .1))
-
-pub all-both : {A : Type 0} (P Q : A → Type 0) (l : List A) → All P l → All Q l → All (λ x. P x × Q x) l
-all-both P Q [] h k = tt
-all-both P Q (x ∷ l) h k = ((h .0, k .0), all-both P Q l (h .1) (k .1))
 
 -- ---- the blocks given
 

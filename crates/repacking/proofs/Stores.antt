@@ -1,15 +1,14 @@
--- Stores that a later run of stores covers, stores behind a front, and the words of two parts.
+-- Stores that a later run of stores covers, and stores behind a front.
 use mathlib.Core.Path.{_≡_, refl, sym, ap, _∙_}
 use mathlib.Core.Bool.{Bool, true, false}
-use mathlib.Core.List.{List, [], _∷_, _++_}
-use Prim.Native.Nat.{ℕ, suc, _+_, _*_, _%_, _≤_, _<_}
+use mathlib.Core.List.{List, [], _∷_}
+use Prim.Native.Nat.{ℕ, suc, _+_, _≤_, _<_}
 use native.Mathlib.Nat.{add-suc}
 use native.Mathlib.Omega.{arith}
 use borrow.Author.Tests.{eqb-true, eqb-false}
 use lib.Dec.{eqb}
 use lib.ListN.{length, drop, set}
 use lib.Seq.{sets, set-set, set-comm, drop-set-add}
-use Rattle.words.specs.Words.{wordsOf}
 
 module _ {A : Type 0} where
   set-over : (l : List A) (i s : ℕ) (x : A) (vs : List A) → s ≤ i → i < s + length vs → sets (set l i x) s vs ≡ sets l s vs
@@ -32,10 +31,3 @@ module _ {A : Type 0} where
   drop-sets-add n l i (v ∷ vs) =
       let e : suc (n + i) ≡ n + suc i = sym (add-suc n i) in
       rw e (drop-sets-add n (set l (n + i) v) (suc i) vs ∙ ap (λ l. sets l (suc i) vs) (drop-set-add n l i v))
-
--- the words of whole words and what is behind them
-pub words-append : (xs ys : List ℕ) → length xs % 2 ≡ 0 → wordsOf (xs ++ ys) ≡ wordsOf xs ++ wordsOf ys
-unfolding wordsOf
-words-append [] ys e = refl
-words-append (x ∷ []) ys e = absurd (omega arith)
-words-append (x ∷ y ∷ xs) ys e = ap (λ l. (x * 256 + y) ∷ l) (words-append xs ys (omega arith))

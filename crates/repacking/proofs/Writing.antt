@@ -12,7 +12,7 @@ use lib.Seq.{sets, length-sets, slice, sets-eq, take-all, take-at, drop-drop, dr
 use Rattle.units.specs.Choice.{if_then_else_}
 use Rattle.units.specs.Units.{bytesOfWords}
 use Rattle.words.specs.Words.{wordsOf, bytesOf, words, joined, blockFrom, mostRecordWords}
-use Rattle.words.proofs.Laws.{length-wordsOf, length-bytesOf, words-bytes, words-slice}
+use Rattle.words.proofs.Laws.{length-wordsOf, length-bytesOf, words-bytes, words-append, words-slice}
 use Rattle.words.proofs.Sealing.{length-framed}
 use Rattle.words.proofs.Writing.{sets-append}
 use Rattle.words.specs.Writing.{Room, Put}
@@ -22,7 +22,7 @@ use Rattle.packing.specs.Packing.{Group, onto, packed, blocksOf}
 use Rattle.packing.specs.Current.{countLimit, currentAt, sealedBytes, roomFor, withRecord, currentAfter}
 use Rattle.repacking.specs.Between.{standing, finished, Fitting, RoomMade, PutOn}
 use Rattle.packing.proofs.Filling.{room-at}
-use Rattle.repacking.proofs.Stores.{sets-over, drop-sets-add, words-append}
+use Rattle.repacking.proofs.Stores.{sets-over, drop-sets-add}
 
 -- ---- what stands in the current block
 

@@ -60,6 +60,13 @@ unfolding bytesOf
 bytes-append [] ys = refl
 bytes-append (w ∷ xs) ys = ap (λ t. (w / 256) ∷ ((w % 256) ∷ t)) (bytes-append xs ys)
 
+-- the words of whole words and what is behind them
+pub words-append : (xs ys : List ℕ) → length xs % 2 ≡ 0 → wordsOf (xs ++ ys) ≡ wordsOf xs ++ wordsOf ys
+unfolding wordsOf
+words-append [] ys e = refl
+words-append (x ∷ []) ys e = absurd (omega arith)
+words-append (x ∷ y ∷ xs) ys e = ap (λ l. (x * 256 + y) ∷ l) (words-append xs ys (omega arith))
+
 -- zeros are zero bytes
 pub zero-bytes : (n : ℕ) → bytesOf (replicate n 0) ≡ replicate (n * 2) 0
 unfolding bytesOf

@@ -1,6 +1,6 @@
 -- Facts about lists that every layer cites.
 use mathlib.Core.Path.{_≡_, ap, _∙_}
-use mathlib.Core.List.{List, [], _∷_, _++_, map}
+use mathlib.Core.List.{List, [], _∷_, _++_, map, flatten}
 use Prim.Native.Nat.{ℕ, zero, suc, _+_, _-_, _≤_, _<_}
 use native.Mathlib.Nat.{suc-add, zero-add}
 use native.Mathlib.Omega.{arith}
@@ -70,3 +70,19 @@ all-map P Q f (x ∷ xs) h = (f x (h .0), all-map P Q f xs (h .1))
 pub all-mapped : {A B : Type 0} (P : B → Type 0) (f : A → B) (l : List A) → All (λ x. P (f x)) l → All P (map f l)
 all-mapped P f [] h = tt
 all-mapped P f (x ∷ xs) h = (h .0, all-mapped P f xs (h .1))
+
+-- both of what holds
+pub all-both : {A : Type 0} (P Q : A → Type 0) (l : List A) → All P l → All Q l → All (λ x. P x × Q x) l
+all-both P Q [] h k = tt
+all-both P Q (x ∷ l) h k = ((h .0, k .0), all-both P Q l (h .1) (k .1))
+
+-- of all elements of lists, list by list, and the other way
+pub all-flatten : {A : Type 0} (P : A → Type 0) (ls : List (List A)) → All P (flatten ls) → All (All P) ls
+unfolding flatten
+all-flatten P [] h = tt
+all-flatten P (l ∷ ls) h = let p = all-parts P l (flatten ls) h in (p .0, all-flatten P ls (p .1))
+
+pub flatten-all : {A : Type 0} (P : A → Type 0) (ls : List (List A)) → All (All P) ls → All P (flatten ls)
+unfolding flatten
+flatten-all P [] h = tt
+flatten-all P (l ∷ ls) h = all-append P l (flatten ls) (h .0) (flatten-all P ls (h .1))
