@@ -30,9 +30,9 @@ use Rattle.write_lines.specs.Cases.{linedOf}
 use Rattle.read_columns.specs.declared.Flaw.{Flaw}
 use Rattle.read_columns.specs.declared.Flaw.the-variants.{Byte, NoRecord, Field, Count, Ends, NotBlank, Range, Much, Long}
 use Rattle.read_columns.specs.declared.Flaw.the-variants as columns
-use Rattle.read_text.specs.declared.Content.{Content}
-use Rattle.read_text.specs.declared.Content.the-variants.{Flawed}
-use Rattle.read_text.specs.declared.Content.the-variants as text
+use Rattle.read_records.specs.declared.Content.{Content}
+use Rattle.read_records.specs.declared.Content.the-variants.{Flawed}
+use Rattle.read_records.specs.declared.Content.the-variants as text
 use Rattle.read_text.specs.declared.Built.{Built}
 use Rattle.read_text.specs.declared.Built.the-variants.{Block}
 use Rattle.read_text.specs.declared.Built.the-variants as built

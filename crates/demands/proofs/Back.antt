@@ -23,8 +23,8 @@ use Rattle.read_columns.specs.Columns.{plainLine, isBlank, blankTo, blankAfter,
 use Rattle.read_columns.proofs.Columns.{right-to, columns-part}
 use Rattle.read_first_line.specs.FirstLine.{Shape, card, fields, gives, firstLine}
 use Rattle.read_line.specs.Lines.{laterFields, inState, readLine, readLines}
-use Rattle.read_text.specs.Spelled.{PlainByte, Readable, Blanks, Spells, SpellsAll, SpellsZero, LineSpells, LinesSpell, no-lines, a-line}
-use Rattle.read_text.proofs.Columns.{all-blank}
+use Rattle.read_records.specs.Spelled.{PlainByte, Readable, Blanks, Spells, SpellsAll, SpellsZero, LineSpells, LinesSpell, no-lines, a-line}
+use Rattle.read_records.proofs.Columns.{all-blank}
 
 -- ---- the columns of a line
 

@@ -25,9 +25,11 @@ use Rattle.prefix.specs.declared.Letters.{Letters}
 use Rattle.prefix.specs.LookUp.{beside}
 use Rattle.prefix.specs.Table.{table, dashes, prefixOf, answerOf}
 use Rattle.cedar.specs.Calls.{returned, converted, returnedBoth, amendedBoth}
-use Rattle.read_text.specs.Cases.{TextRow}
-use Rattle.read_text.specs.Block.{readText, wordsIn, toBlock}
-use Rattle.read_text.proofs.Known.{WordsFit, text-known, answer-told}
+use Rattle.read_records.specs.Cases.{TextRow}
+use Rattle.read_records.specs.Reading.{readText}
+use Rattle.read_text.specs.Block.{wordsIn, toBlock}
+use Rattle.read_records.proofs.Known.{WordsFit, text-known}
+use Rattle.read_text.proofs.Known.{answer-told}
 use Rattle.demands.specs.Demand1.{Unpacks, Judgement, JudgeAnswers, PrefixAnswers, LinesAnswers, ContentAnswers, BlockAnswers, RepackAnswers, Writes, SheetRow, OpenAnswers, StartAnswers, BothAnswer, AmendRow, AmendAnswers, UndoRow, UndoAnswers, CedarJudgeTells, CedarPrefixTells, TellsWritten, CedarLinesTell, CedarBlockTells, CedarStartTells, CedarRepackTells, TellsBoth, CedarAmendTells, CedarUndoTells}
 use Rattle.units.specs.declared.Answer.{Answer}
 use Rattle.units.proofs.Choosing.{by-test, both-ways}

@@ -14,7 +14,8 @@ use Rattle.block.specs.Records.{recordsOf}
 use Rattle.block.proofs.Exact.{only-good, every-good, its-records, frame-of}
 use Rattle.write_lines.specs.Text.{textOf, toLines}
 use Rattle.write_lines.proofs.Outcome.{when-accepted}
-use Rattle.read_text.specs.Block.{readText, toBlock}
+use Rattle.read_records.specs.Reading.{readText}
+use Rattle.read_text.specs.Block.{toBlock}
 use Rattle.demands.specs.Demand2.{AcceptedExactly, OneWay, bytesIn, wrote, standard, LinesRead, BlockLinesBlock, TextGivesBlock, WrittenAccepted, LinesBlockLines, StandardRead, StandardStays, OneStandard}
 use Rattle.demands.proofs.Standard.{text-back}
 use Rattle.demands.proofs.Sound.{its-text}
@@ -23,8 +24,8 @@ use native.Mathlib.Omega.{arith}
 use Rattle.words.proofs.Writing.{written-either}
 use Rattle.block.specs.Rules.{IsBlock}
 use Rattle.units.proofs.Told.{Known}
-use Rattle.read_text.specs.Cases.{TextRow}
-use Rattle.read_text.proofs.Known.{WordsFit, text-known}
+use Rattle.read_records.specs.Cases.{TextRow}
+use Rattle.read_records.proofs.Known.{WordsFit, text-known}
 
 pub accepted-exactly : AcceptedExactly
 accepted-exactly b bytes = (λ k e. only-good b k bytes e, λ rs good. every-good b rs good)

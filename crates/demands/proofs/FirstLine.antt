@@ -21,7 +21,7 @@ use Rattle.units.specs.Units.{Line}
 use Rattle.write_lines.proofs.Sizes.{is-cards, data-count}
 use Rattle.read_first_line.specs.FirstLine.{card, fields, gives, cards, counts, countsIn, catalogueFields, headerFields, countFields, prologueFields, dataFields, kindFields, firstFields, cardsRoom, dataRoom, headLine, firstLine}
 use Rattle.read_line.specs.Lines.{inState}
-use Rattle.read_text.specs.Spelled.{Blanks, SpellsAll, CardsSpelled}
+use Rattle.read_records.specs.Spelled.{Blanks, SpellsAll, CardsSpelled}
 use Rattle.demands.proofs.Back.{blank-back, is-first-line, numbers-back, zeros-back}
 
 -- ---- words that must be zero

@@ -16,10 +16,10 @@ use Rattle.line_plan.specs.Plan.{plan, dataPlan, kindShown, shownWords}
 use Rattle.units.specs.Units.{Line}
 use Rattle.write_lines.proofs.Sizes.{is-cards, data-count}
 use Rattle.read_first_line.specs.FirstLine.{Shape, card, fields, Read}
-use Rattle.read_text.specs.Spelled.{PlainByte, Readable, LineSpells, LinesSpell, no-lines, a-line, CardsSpelled, RecordSpelled, as-catalogue, as-header, as-data}
+use Rattle.read_records.specs.Spelled.{PlainByte, Readable, LineSpells, LinesSpell, no-lines, a-line, CardsSpelled, RecordSpelled, as-catalogue, as-header, as-data}
 use Rattle.read_columns.proofs.Columns.{columns-all}
-use Rattle.read_text.proofs.Columns.{card-words, spelled-below}
-use Rattle.read_text.proofs.Opened.{wordsToCome, CardsFirst, DataFirst, FirstRead, catalogue-first, header-first, data-first, Opens, line-wide, plan-turn}
+use Rattle.read_records.proofs.Columns.{card-words, spelled-below}
+use Rattle.read_records.proofs.Opened.{wordsToCome, CardsFirst, DataFirst, FirstRead, catalogue-first, header-first, data-first, Opens, line-wide, plan-turn}
 
 -- ---- the words of lines after a record's first
 

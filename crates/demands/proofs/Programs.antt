@@ -17,7 +17,8 @@ use Rattle.block.proofs.Known.{judged-known}
 use Rattle.block_slice.specs.Blocks.{blocksIn, recordsIn}
 use Rattle.packing.specs.Packing.{repacked}
 use Rattle.write_lines.specs.Text.{textOf, toLines}
-use Rattle.read_text.specs.Block.{readText, toBlock}
+use Rattle.read_records.specs.Reading.{readText}
+use Rattle.read_text.specs.Block.{toBlock}
 use Rattle.repacking.specs.Repacking.{repack}
 use Rattle.report.specs.Refusal.{orRefusal}
 use Rattle.printed.specs.Listing.{listingOf}

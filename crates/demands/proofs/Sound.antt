@@ -16,12 +16,12 @@ use Rattle.units.specs.Units.{Line}
 use Rattle.read_cut.specs.Lines.{linesIn}
 use Rattle.read_first_line.specs.FirstLine.{Shape, Read}
 use Rattle.read_line.specs.Lines.{readLine, atEnd, readLines}
-use Rattle.read_text.specs.Block.{readText}
-use Rattle.read_text.specs.Spelled.{Readable, Blanks, LinesSpell, no-lines, a-line, Spelled, at-end, blank-line, a-record}
+use Rattle.read_records.specs.Reading.{readText}
+use Rattle.read_records.specs.Spelled.{Readable, Blanks, LinesSpell, no-lines, a-line, Spelled, at-end, blank-line, a-record}
 use Rattle.units.proofs.Told.{Known}
-use Rattle.read_text.specs.Cases.{TextRow}
-use Rattle.read_text.proofs.Opened.{wordsToCome, Opens, skipped, opens, Given, Taken, line-known, RoomToCome}
-use Rattle.read_text.proofs.Known.{lines-most, room-on, words-room}
+use Rattle.read_records.specs.Cases.{TextRow}
+use Rattle.read_records.proofs.Opened.{wordsToCome, Opens, skipped, opens, Given, Taken, line-known, RoomToCome}
+use Rattle.read_records.proofs.Known.{lines-most, room-on, words-room}
 use Rattle.demands.specs.Texts.{IsText}
 use Rattle.demands.proofs.Gathered.{done}
 

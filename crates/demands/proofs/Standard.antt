@@ -30,8 +30,8 @@ use Rattle.write_lines.proofs.Sizes.{record-sized, is-cards, cards-lines, data-
 use Rattle.read_cut.specs.Lines.{onto, linesIn, endLength}
 use Rattle.read_columns.proofs.Columns.{columns-full}
 use Rattle.read_first_line.specs.FirstLine.{card, fields}
-use Rattle.read_text.specs.Block.{readText}
-use Rattle.read_text.specs.Spelled.{PlainByte, Readable, Blanks, Spells, SpellsAll, LineSpells, LinesSpell, no-lines, a-line, CardsSpelled, RecordSpelled, as-catalogue, as-header, as-data, Spelled, at-end, a-record}
+use Rattle.read_records.specs.Reading.{readText}
+use Rattle.read_records.specs.Spelled.{PlainByte, Readable, Blanks, Spells, SpellsAll, LineSpells, LinesSpell, no-lines, a-line, CardsSpelled, RecordSpelled, as-catalogue, as-header, as-data, Spelled, at-end, a-record}
 use Rattle.demands.proofs.Lines.{line-width}
 use Rattle.demands.proofs.Texts.{text-read}
 

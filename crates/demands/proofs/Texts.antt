@@ -19,9 +19,9 @@ use Rattle.line_plan.specs.Plan.{dataPlan, kindShown, shownWords}
 use Rattle.units.specs.Units.{Line}
 use Rattle.read_first_line.specs.FirstLine.{Shape, card, fields, gives}
 use Rattle.read_line.specs.Lines.{inState, atEnd, readLines}
-use Rattle.read_text.specs.Block.{readText}
-use Rattle.read_text.specs.Spelled.{Readable, LineSpells, LinesSpell, a-line, RecordSpelled, as-catalogue, as-header, as-data, Spelled, at-end, blank-line, a-record}
-use Rattle.read_text.proofs.Opened.{plan-turn}
+use Rattle.read_records.specs.Reading.{readText}
+use Rattle.read_records.specs.Spelled.{Readable, LineSpells, LinesSpell, a-line, RecordSpelled, as-catalogue, as-header, as-data, Spelled, at-end, blank-line, a-record}
+use Rattle.read_records.proofs.Opened.{plan-turn}
 use Rattle.demands.specs.Texts.{FieldsExactly, IsText, TextsExactly}
 use Rattle.demands.proofs.Back.{ahead, line-back, skip-back, joins, lines-back}
 use Rattle.demands.proofs.FirstLine.{catalogue-given, header-given, data-given}

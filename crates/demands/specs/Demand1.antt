@@ -14,7 +14,8 @@ use Rattle.block.specs.Cases.{BlockRow}
 use Rattle.block.specs.Judging.{judged}
 use Rattle.write_lines.specs.Cases.{LinesRow}
 use Rattle.write_lines.specs.Text.{toLines}
-use Rattle.read_text.specs.Cases.{TextRow, ToBlockRow}
+use Rattle.read_records.specs.Cases.{TextRow}
+use Rattle.read_text.specs.Cases.{ToBlockRow}
 use Rattle.read_text.specs.Block.{wordsIn, toBlock}
 use Rattle.sheet.specs.Sheets.{Entry, version1, opened, started}
 use Rattle.amending.specs.Amending.{Outcome, amend, undo}

@@ -13,7 +13,8 @@ use Rattle.block.specs.Judging.{judged, Accepted}
 use Rattle.block.specs.Records.{recordsOf}
 use Rattle.block.specs.Rules.{IsBlock}
 use Rattle.write_lines.specs.Text.{textOf, toLines}
-use Rattle.read_text.specs.Block.{readText, toBlock}
+use Rattle.read_records.specs.Reading.{readText}
+use Rattle.read_text.specs.Block.{toBlock}
 
 -- what is accepted is a good block, and every good block is accepted, with the number of its records
 abbrev pub AcceptedExactly : Type 0

@@ -11,8 +11,8 @@ use Rattle.field.specs.declared.Number.the-variants.{Word}
 use Rattle.field.specs.Reading.{readField}
 use Rattle.field.specs.Grammar.{IsField}
 use Rattle.read_cut.specs.Lines.{linesIn}
-use Rattle.read_text.specs.Block.{readText}
-use Rattle.read_text.specs.Spelled.{Readable, Spelled}
+use Rattle.read_records.specs.Reading.{readText}
+use Rattle.read_records.specs.Spelled.{Readable, Spelled}
 
 -- a field is read as a word exactly where the grammar has it as a field of that word
 abbrev pub FieldsExactly : Type 0

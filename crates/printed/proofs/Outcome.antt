@@ -21,8 +21,8 @@ use Rattle.block.specs.Records.{recordsOf}
 use Rattle.block.proofs.Known.{accepted-by}
 use Rattle.write_lines.specs.Text.{textOf}
 use Rattle.write_lines.proofs.Sizes.{text-bound}
-use Rattle.read_text.specs.Block.{readText}
-use Rattle.read_text.proofs.Known.{text-known, words-room}
+use Rattle.read_records.specs.Reading.{readText}
+use Rattle.read_records.proofs.Known.{text-known, words-room}
 use Rattle.report.specs.Refusal.{refusalLine, orRefusal}
 use Rattle.report.proofs.Lines.{printed-most}
 use Rattle.block_slice.specs.Blocks.{blocksIn, recordsIn}

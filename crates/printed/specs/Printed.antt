@@ -9,7 +9,7 @@ use Rattle.words.specs.Writing.{Put}
 use Rattle.block.specs.Judging.{judged}
 use Rattle.block.specs.Records.{recordsOf}
 use Rattle.write_lines.specs.Text.{textOf}
-use Rattle.read_text.specs.Block.{readText}
+use Rattle.read_records.specs.Reading.{readText}
 use Rattle.block_slice.specs.Blocks.{blocksIn, recordsIn}
 use Rattle.packing.specs.Packing.{repacked}
 use Rattle.report.specs.Refusal.{refusalLine, orRefusal}

@@ -1,15 +1,13 @@
 -- The call's outcome: a text that was judged, and the block that is written of it.
 use mathlib.Core.Path.{_≡_, refl, sym, ap, _∙_}
-use mathlib.Core.List.{List, [], _++_}
+use mathlib.Core.List.{List, _++_}
 use Prim.Native.Nat.{ℕ, _+_, _≤_, _<_}
 use native.Mathlib.Nat.{zero-add}
 use native.Mathlib.Omega.{arith}
-use borrow.Author.Tests.{lt-ltb, le-ltb, ltb-false}
-use lib.Dec.{ltb}
 use lib.ListN.{length, drop}
 use Rattle.units.specs.declared.Words.{Words}
 use Rattle.units.specs.Answers.{answer, Verdict, passed, refused, onward}
-use Rattle.units.proofs.Verdicts.{never-passed, else-passed}
+use Rattle.units.proofs.Verdicts.{never-passed}
 use Rattle.units.specs.Units.{bytesOfWords}
 use Rattle.words.specs.Words.{wordsOf, words, blockFrom}
 use Rattle.words.proofs.Writing.{too-short, all-written}
@@ -17,24 +15,13 @@ use Rattle.words.proofs.Sealing.{sealed-put, length-framed}
 use Rattle.words.specs.Outcomes.{leaves, written}
 use Rattle.read_columns.specs.declared.Flaw.{Flaw}
 use Rattle.read_columns.specs.Cases.{flawOf}
-use Rattle.read_cut.specs.Lines.{linesIn}
-use Rattle.read_line.specs.Lines.{readLines}
-use Rattle.read_text.specs.Block.{readText, wordsIn, toBlock}
+use Rattle.read_records.specs.Reading.{readText}
+use Rattle.read_text.specs.Block.{wordsIn, toBlock}
 use Rattle.read_first_line.specs.State.{put}
-use Rattle.read_text.specs.Content.{Stored, stored, storedOf}
+use Rattle.read_records.specs.Content.{Stored, stored, storedOf}
 use Rattle.read_text.specs.Cases.{contentOf}
-use Rattle.read_text.specs.declared.Content.{Content}
-use Rattle.read_text.specs.declared.Content.the-variants.{RecordWords, Flawed}
-
--- row 30 comes first
-module _ (t : List ℕ) where
-  pub too-long : 65536 < length t → readText t ≡ refused (answer 30 0 0 0)
-  unfolding readText
-  too-long h = simp (lt-ltb 65536 (length t) h)
-
-  pub line-by-line : length t ≤ 65536 → readText t ≡ readLines 1 0 [] (linesIn t)
-  unfolding readText
-  line-by-line h = simp (le-ltb 65536 (length t) h)
+use Rattle.read_records.specs.declared.Content.{Content}
+use Rattle.read_records.specs.declared.Content.the-variants.{RecordWords, Flawed}
 
 -- an accepted text, and the count of its record words
 pub record HasWords (t : List ℕ) (n : ℕ) : Type 0 where
@@ -63,11 +50,6 @@ words-counted t b b′ r e = by r (readText t) e
     by (Flawed f) (passed ws) same = absurd (never-passed same)
     by (Flawed f) (refused r) same = let k : flawOf f ≡ r = cc in ap (λ x. refused x) k
 
--- what was accepted has at most 65,536 bytes
-pub not-long : (t : List ℕ) (n : ℕ) → HasWords t n → length t ≤ 65536
-unfolding readText
-not-long t n a = ltb-false 65536 (length t) (else-passed (ltb 65536 (length t)) (answer 30 0 0 0) _ (a .records) (a .is) .0)
-
 -- the words that are put behind the length word
 records-put : (t b b′ : List ℕ) (n : ℕ) (r : Content) (a : HasWords t n) → storedOf b′ r ≡ stored 0 b (readText t) → b′ ≡ put 0 b (a .records)
 records-put t b b′ n (RecordWords m) a e =
@@ -89,10 +71,10 @@ module _ (t b : List ℕ) (n : ℕ) (a : HasWords t n) {size : ℕ} (is : size �
   block-short h = too-short 29 b (blockFrom (a .records)) size length-is h ∙ sym (block-is t b n a)
 
   -- its words were put behind the length word, and sealed
-  pub block-built : (b′ : List ℕ) (r : Content) {after : List ℕ} → size ≤ length b → storedOf b′ r ≡ stored 0 b (readLines 1 0 [] (linesIn t))
+  pub block-built : (b′ : List ℕ) (r : Content) {after : List ℕ} → size ≤ length b → storedOf b′ r ≡ stored 0 b (readText t)
       → after ≡ blockFrom (words (wordsOf b′) 2 (n + 1)) ++ drop (bytesOfWords (n + 2)) b′ → leaves (answer 0 size 0 0) after ≡ toBlock t b
   block-built b′ r room read sealed =
-      let p = records-put t b b′ n r a (read ∙ ap (stored 0 b) (sym (line-by-line t (not-long t n a)))) in
+      let p = records-put t b b′ n r a read in
       rw is (all-written 29 b (blockFrom (a .records)) (omega (arith, length-is)) (sealed-put b (a .records) n (a .count) (omega arith) p sealed)) ∙ sym (block-is t b n a)
 
 -- a refused text leaves the block as it is

@@ -1,17 +1,12 @@
 -- The paper's numbers for each case of what becomes of a text.
 use Prim.Native.Nat.{ℕ, _≤_}
-use mathlib.Core.Path.{_≡_}
 use Rattle.units.specs.declared.Answer.{Answer}
 use Rattle.units.specs.Answers.{answer, Verdict, passed, refused}
 use Rattle.read_columns.specs.Cases.{flawOf}
-use Rattle.read_text.specs.declared.Content.{Content}
-use Rattle.read_text.specs.declared.Content.the-variants.{RecordWords, Flawed}
+use Rattle.read_records.specs.declared.Content.{Content}
+use Rattle.read_records.specs.declared.Content.the-variants.{RecordWords, Flawed}
 use Rattle.read_text.specs.declared.Built.{Built}
 use Rattle.read_text.specs.declared.Built.the-variants.{Block, Refused, Short}
-
--- "Order for text: 30, then line by line ... At the end 21": rows 20 to 28, and 30
-abbrev pub TextRow : ℕ → Type 0
-TextRow n = (20 ≤ n) × (n ≤ 30) × (n ≡ 29 → ⊥)
 
 -- "then 29"
 abbrev pub ToBlockRow : ℕ → Type 0

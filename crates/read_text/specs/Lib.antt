@@ -1,5 +1,3 @@
-pub mod Content
 pub mod Block
 pub mod Cases
-pub mod Spelled
 pub mod Promises

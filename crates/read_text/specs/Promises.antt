@@ -4,7 +4,7 @@ use mathlib.Core.List.{List}
 use Prim.Native.Nat.{ℕ}
 use Rattle.units.specs.Answers.{answered, Packs}
 use Rattle.words.specs.Outcomes.{leaves}
-use Rattle.read_text.specs.declared.Content.{Content}
+use Rattle.read_records.specs.declared.Content.{Content}
 use Rattle.read_text.specs.declared.Built.{Built}
 use Rattle.read_text.specs.Cases.{contentOf, builtOf}
 use Rattle.read_text.specs.Block.{wordsIn, toBlock}

@@ -26,14 +26,15 @@ use Rattle.read_cut.specs.Lines.{onto, endLength, linesIn}
 use Rattle.read_columns.specs.Columns.{rightTo, plainLine, blankAfter, number, fieldNumbers, zeroField, zeroFields}
 use Rattle.read_first_line.specs.FirstLine.{catalogueFields, headerFields, countsIn, countFields, prologueFields, dataFields, kindFields, firstFields, cardsRoom, dataRoom, firstLine}
 use Rattle.read_line.specs.Lines.{laterFields, inState, readLine, atEnd, readLines}
-use Rattle.read_text.specs.Block.{readText, wordsIn, toBlock}
+use Rattle.read_records.specs.Reading.{readText}
+use Rattle.read_text.specs.Block.{wordsIn, toBlock}
 use Rattle.sheet.specs.Sheets.{sheetOf, sheetWith, entriesOf, entries, opened, started, broken, allZero}
 use Rattle.block_value.specs.Places.{noRecord, stands}
 use Rattle.amending.specs.Amending.{amendable, undoable, onBoth}
 use Rattle.block_slice.specs.Blocks.{wrongFirst, judgeStated, judgeNext, walkBlocks, blocksIn}
 use Rattle.packing.specs.Packing.{packed, groups, repacked}
 use Rattle.repacking.specs.Repacking.{repack}
-use Rattle.read_text.proofs.Outcome as text
+use Rattle.read_records.proofs.Outcome as text
 use Rattle.repacking.proofs.Outcome as packed-again
 use Rattle.refusals.specs.Questions.{AnsweredSo, turned, wordPut, cutTo}
 use Rattle.refusals.specs.Refusals.{statedBlocks, badBlocks, blockTrials, badTexts, textTrials, roomTrials, sheetTrials, amendTrials, undoTrials, badSlices, repackTrials, EveryRefusal}

@@ -5,7 +5,8 @@ use denote.Ref.{now}
 use Rattle.units.proofs.Packing.{fitted-is}
 use Rattle.words.specs.Words.{blockFrom}
 use Rattle.words.specs.Outcomes.{leaves}
-use Rattle.read_text.specs.Block.{readText, toBlock}
+use Rattle.read_records.specs.Reading.{readText}
+use Rattle.read_text.specs.Block.{toBlock}
 use Rattle.printed.proofs.Outcome.{block-bound, ended, text-row}
 use Rattle.printed.proofs.print_block.Statement.{statement}
 use Rattle.printed.proofs.print_block.Tie as tie

@@ -2,8 +2,8 @@ use denote.Ref.{now}
 use Prim.Native.Nat.{_≤_}
 use native.Mathlib.Omega.{arith}
 use Rattle.words.specs.Words.{mostRecordWords}
-use Rattle.read_text.proofs.Known.{words-room}
-use Rattle.read_text.proofs.Outcome.{HasWords, has-words, not-long, block-short, block-built}
+use Rattle.read_records.proofs.Known.{words-room}
+use Rattle.read_text.proofs.Outcome.{HasWords, has-words, block-short, block-built}
 use borrow.Author.Needs.{needs}
 use Rattle.read_text.proofs.write_block.Statement.{statement}
 use Rattle.read_text.proofs.write_block.Tie as tie
@@ -24,11 +24,11 @@ returns c = let w = c .before in block-short _ _ _ (given (w .before .before .be
 
 seal-requires : tie.Need-seal-requires
 seal-requires c κs = let r = c .before .before .before in let e = r .before .before in
-    (most (start-before-else1 e), omega (arith, r .read-lines .kept .1 .0, e .if1 .left, e .before .bytes-of-words .ensures))
+    (most (start-before-else1 e), omega (arith, r .read .kept .1 .0, e .if1 .left, e .before .bytes-of-words .ensures))
 
 returns-2 : tie.Need-returns-2
 returns-2 c = let s = c .before .before in let r = s .before .before .before .before in let e = r .before .before in
-    block-built _ _ _ (given (start-before-else1 e)) (e .before .bytes-of-words .ensures) _ (r .read-lines .result) (e .if1 .left) (r .read-lines .ensures) (s .seal .ensures)
+    block-built _ _ _ (given (start-before-else1 e)) (e .before .bytes-of-words .ensures) _ (r .read .result) (e .if1 .left) (r .read .ensures) (s .seal .ensures)
 
 pub write-block-spec : {M : Type 1} → statement M
 write-block-spec =
@@ -37,7 +37,7 @@ write-block-spec =
     (λ c. omega (arith, most (c .before .before .before)))
     (λ c κs. omega (arith, most (c .before .before .before)))
     returns
-    (λ c κs. let s = start-before-else1 (c .before) in not-long (now (s .args .text)) _ (given s))
+    (λ c κs. tt)
     seal-requires
     (λ c. search needs)
     returns-2)

@@ -8,8 +8,8 @@ use Rattle.read_columns.specs.Cases.{flawOf}
 use Rattle.read_first_line.specs.FirstLine.{Shape}
 use Rattle.read_line.specs.Lines.{atEnd}
 use Rattle.read_first_line.specs.State.{put}
-use Rattle.read_text.specs.declared.Content.{Content}
-use Rattle.read_text.specs.declared.Content.the-variants.{RecordWords, Flawed}
+use Rattle.read_records.specs.declared.Content.{Content}
+use Rattle.read_records.specs.declared.Content.the-variants.{RecordWords, Flawed}
 
 -- the record words of a text, and the block as it is then
 pub record Stored : Type 0 where

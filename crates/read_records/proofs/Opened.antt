@@ -22,12 +22,12 @@ use Rattle.read_columns.specs.Columns.{plainLine, blankAfter, blankLine, column
 use Rattle.read_line.proofs.Later.{card-size}
 use Rattle.read_first_line.specs.FirstLine.{Shape, card, fields, Read, gives, Head, cards, counts, countsIn, catalogueFields, headerFields, countFields, prologueFields, dataFields, kindFields, firstFields, cardsRoom, dataRoom, headLine, firstLine}
 use Rattle.read_line.specs.Lines.{laterFields, inState, readLine}
-use Rattle.read_text.specs.Spelled.{Readable, Blanks, SpellsAll, SpellsZero, LineSpells}
+use Rattle.read_records.specs.Spelled.{Readable, Blanks, SpellsAll, SpellsZero, LineSpells}
 use Rattle.units.proofs.Told.{Known, then-known, known-as}
-use Rattle.read_text.proofs.Told.{told}
-use Rattle.read_text.specs.Cases.{TextRow}
+use Rattle.read_records.proofs.Told.{told}
+use Rattle.read_records.specs.Cases.{TextRow}
 use Rattle.units.proofs.Choosing.{by-test}
-use Rattle.read_text.proofs.Columns.{plain-known, all-blank, WordsRead, numbers-known, zeros-known, blank-known}
+use Rattle.read_records.proofs.Columns.{plain-known, all-blank, WordsRead, numbers-known, zeros-known, blank-known}
 
 -- ---- the lines to come
 

@@ -12,7 +12,7 @@ use Rattle.read_columns.specs.Cases.{flawOf}
 use Rattle.read_first_line.specs.FirstLine.{Shape, Read}
 use Rattle.read_line.specs.Lines.{readLine, readLines}
 use Rattle.read_first_line.specs.State.{Stand, toCome, put, after, standOf}
-use Rattle.read_text.specs.Content.{stored}
+use Rattle.read_records.specs.Content.{stored}
 use Rattle.read_first_line.specs.declared.Rest.{Rest}
 use Rattle.read_first_line.specs.declared.Move.{Move}
 use Rattle.read_first_line.specs.declared.Move.the-variants.{Next, Refused}
@@ -20,9 +20,9 @@ use Rattle.read_cut.specs.declared.Cut.{Cut}
 use Rattle.read_cut.specs.Lines.{linesIn, CutAt}
 use Rattle.read_first_line.proofs.Heads.{put-append}
 use Rattle.units.proofs.Told.{Known}
-use Rattle.read_text.specs.Cases.{TextRow}
-use Rattle.read_text.proofs.Opened.{Taken, line-known, RoomToCome}
-use Rattle.read_text.proofs.Known.{room-on}
+use Rattle.read_records.specs.Cases.{TextRow}
+use Rattle.read_records.proofs.Opened.{Taken, line-known, RoomToCome}
+use Rattle.read_records.proofs.Known.{room-on}
 
 -- words that are read in two parts
 kept-both : (held : ℕ) (b ws : List ℕ) (v : Verdict (List ℕ)) → stored held b (onward v (λ vs. passed (ws ++ vs))) ≡ stored (held + length ws) (put held b ws) v

@@ -1,4 +1,4 @@
-use Rattle.read_text.proofs.Loop.{Reading, reading-refused, reading-on}
+use Rattle.read_records.proofs.Loop.{Reading, reading-refused, reading-on}
 use denote.Ref.{now}
 use mathlib.Core.Path.{_≡_, refl, sym, ap, _∙_}
 use mathlib.Core.List.{List, []}
@@ -10,10 +10,10 @@ use Rattle.read_cut.specs.Lines.{linesIn}
 use Rattle.read_line.specs.Lines.{readLines}
 use Rattle.read_first_line.specs.State.{toCome}
 use Rattle.read_first_line.specs.FirstLine.{Shape}
-use Rattle.read_text.specs.Content.{stored}
-use Rattle.read_text.proofs.Opened.{wordsToCome, RoomToCome}
-use Rattle.read_text.proofs.read_lines.Statement.{statement}
-use Rattle.read_text.proofs.read_lines.Tie as tie
+use Rattle.read_records.specs.Content.{stored}
+use Rattle.read_records.proofs.Opened.{wordsToCome, RoomToCome}
+use Rattle.read_records.proofs.read_lines.Statement.{statement}
+use Rattle.read_records.proofs.read_lines.Tie as tie
 
 abbrev Inv-loop : tie.InvT-loop
 Inv-loop text block₀ row₀ rest₀ held₀ num₀ at₀ block row rest held num at = Reading text block₀ block row (toCome rest) (held .0) num at

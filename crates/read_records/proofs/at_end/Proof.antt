@@ -3,10 +3,10 @@ use Rattle.read_line.proofs.ToCome.{card-less, fields-less, none-to-come}
 use mathlib.Core.List.{[]}
 use mathlib.Core.Path.{_≡_, sym, _∙_}
 use native.Mathlib.Omega.{arith}
-use Rattle.read_text.proofs.Ends.{inside, no-record, all-read}
+use Rattle.read_records.proofs.Ends.{inside, no-record, all-read}
 use borrow.Author.Needs.{needs}
-use Rattle.read_text.proofs.at_end.Statement.{statement}
-use Rattle.read_text.proofs.at_end.Tie as tie
+use Rattle.read_records.proofs.at_end.Statement.{statement}
+use Rattle.read_records.proofs.at_end.Tie as tie
 
 -- behind both tests nothing is to come
 none-left : (c : tie.Else2) → let s = c .before .before .before .before in toCome (s .before .args .rest) ≡ []

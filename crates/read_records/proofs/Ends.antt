@@ -8,7 +8,7 @@ use Rattle.units.specs.Answers.{answer, passed, refused}
 use Rattle.words.specs.Words.{bytesOf}
 use Rattle.read_first_line.specs.FirstLine.{Shape}
 use Rattle.read_line.specs.Lines.{atEnd}
-use Rattle.read_text.specs.Content.{stored}
+use Rattle.read_records.specs.Content.{stored}
 
 module _ (num held : ℕ) (b : List ℕ) {here : List Shape} where
   pub inside : (s : Shape) (rest : List Shape) → here ≡ s ∷ rest → refused (answer 25 num 1 0) ≡ stored held b (atEnd num held here)

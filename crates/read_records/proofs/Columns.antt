@@ -23,10 +23,10 @@ use Rattle.field.specs.Grammar.{SignedWord, not-negative, negative, minus-zero}
 use Rattle.field.proofs.Exact.{field-said}
 use Rattle.units.specs.Units.{Line, columnsOfFields}
 use Rattle.read_columns.specs.Columns.{rightTo, plainLine, isBlank, blankTo, blankAfter, columnOf, wordIn, number, fieldNumbers, blankField, zeroField, zeroFields}
-use Rattle.read_text.specs.Spelled.{PlainByte, Readable, Blanks, Spells, SpellsAll, SpellsZero}
+use Rattle.read_records.specs.Spelled.{PlainByte, Readable, Blanks, Spells, SpellsAll, SpellsZero}
 use Rattle.units.proofs.Told.{Known, then-known, known-as}
-use Rattle.read_text.proofs.Told.{told}
-use Rattle.read_text.specs.Cases.{TextRow}
+use Rattle.read_records.proofs.Told.{told}
+use Rattle.read_records.specs.Cases.{TextRow}
 use Rattle.units.proofs.Choosing.{by-test}
 
 -- ---- columns that must be right
