@@ -26,6 +26,10 @@ linesIn (b ∷ t) =
     else if eqb (endLength (b ∷ t)) 1 then [] ∷ linesIn t
     else linesIn t
 
+-- the plain bytes from place `at` on go on at place i, or end there
+abbrev pub PlainOn : List ℕ → ℕ → ℕ → Type 0
+PlainOn t at i = i + plainIn (drop i t) ≡ at + plainIn (drop at t)
+
 -- the first line from place `at` on is the bytes before `end`, and it begins with `plain` plain bytes; its end stands there, and the other lines begin at `next`
 pub record CutAt (t : List ℕ) (at : ℕ) (c : Cut) : Type 0 where
   pub cut : linesIn (drop at t) ≡ take (c .end .0 - at) (drop at t) ∷ linesIn (drop (c .next .0) t)

@@ -3,10 +3,10 @@ use units::Bytes;
 ghost use mathlib.Core.Path.{_≡_};
 ghost use mathlib.Core.Bool.{true};
 ghost use Prim.Native.Nat.{_+_, _≤_, _<_};
-ghost use lib.Dec.{eqb};
+ghost use lib.Dec.{eqb, leb};
 ghost use lib.ListN.{length, getD, drop};
 ghost use Rattle.words.specs.Scans.{within, plainIn};
-ghost use Rattle.read_cut.specs.Lines.{endLength, CutAt};
+ghost use Rattle.read_cut.specs.Lines.{endLength, PlainOn, CutAt};
 
 // Where a line ends, where the next one begins, and how many of its bytes are plain, from 32 to 126, before the first that is not.
 pub struct Cut {
@@ -21,19 +21,66 @@ fn is_plain(b: u8) -> bool
     (b' ' <= b) & (b <= b'~')
 }
 
-// The place before which the bytes from place `at` on are plain.
-fn plain_end(text: &[u8], at: usize) -> usize
+// Sixteen bytes from place `at` on are plain. Each is looked at, whatever the others are, so that the machine can take them at once.
+fn sixteen_plain(text: &[u8], at: usize) -> bool
+    requires { ⌜ at + 16 ≤ length (now text) ⌝ }
+    ensures { λ r. ⌜ r ≡ leb 16 (plainIn (drop at (now (text .entry)))) ⌝ }
+{
+    let mut plain = true;
+    let mut k = 0;
+    while k < 16 {
+        plain = plain & is_plain(text[at + k]);
+        k += 1;
+    }
+    plain
+}
+
+// From place `at` on sixteen plain bytes, and again, as often as there are.
+fn plain_sixteens(text: &[u8], at: usize) -> usize
     requires { ⌜ at ≤ length (now text) ⌝ }
-    ensures { λ r. ⌜ r ≡ at + plainIn (drop at (now (text .entry))) ⌝ }
+    ensures { λ r. ⌜ PlainOn (now (text .entry)) at r × (r ≤ length (now (text .entry))) ⌝ }
 {
     let mut i = at;
-    while i < text.len() {
+    while 16 <= text.len() - i {
+        if !sixteen_plain(text, i) {
+            return i;
+        }
+        i += 16;
+    }
+    i
+}
+
+// From place `at` on plain bytes, one by one, up to `end` at most.
+fn plain_upto(text: &[u8], at: usize, end: usize) -> usize
+    requires { ⌜ (at ≤ end) × (end ≤ length (now text)) ⌝ }
+    ensures { λ r. ⌜ PlainOn (now (text .entry)) at r × (r ≤ end) × (r < end → plainIn (drop r (now (text .entry))) ≡ 0) ⌝ }
+{
+    let mut i = at;
+    while i < end {
         if !is_plain(text[i]) {
             return i;
         }
         i += 1;
     }
     i
+}
+
+// The place before which the bytes from place `at` on are plain. A line of one field ends among the first eight of them; only longer ones are worth more at once.
+fn plain_end(text: &[u8], at: usize) -> usize
+    requires { ⌜ at ≤ length (now text) ⌝ }
+    ensures { λ r. ⌜ r ≡ at + plainIn (drop at (now (text .entry))) ⌝ }
+{
+    let all = text.len();
+    if all - at < 8 {
+        return plain_upto(text, at, all);
+    }
+    let near = at + 8;
+    let first = plain_upto(text, at, near);
+    if first < near {
+        return first;
+    }
+    let far = plain_sixteens(text, near);
+    plain_upto(text, far, all)
 }
 
 // An LF stands at place i.

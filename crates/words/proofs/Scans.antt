@@ -1,6 +1,6 @@
 -- The scan for the first word that fails a test, a turn at a time.
 use mathlib.Core.Path.{_≡_, refl, ap, _∙_}
-use mathlib.Core.Bool.{Bool, true, false}
+use mathlib.Core.Bool.{Bool, true, false, _&&_}
 use mathlib.Core.List.{List, [], _∷_}
 use Prim.Native.Nat.{ℕ, zero, suc, _+_, _*_, _/_, _%_, _≤_, _<_, min}
 use native.Mathlib.Numerals.{add-one}
@@ -12,7 +12,7 @@ use Rattle.words.proofs.Laws.{words-slice}
 use Rattle.units.specs.Choice.{if_then_else_}
 use Rattle.units.proofs.Choosing.{by-test}
 use lib.Dec.{eqb, leb}
-use borrow.Author.Tests.{eqb-true, eqb-false, leb-true, le-leb, lt-leb}
+use borrow.Author.Tests.{eqb-true, eqb-false, leb-true, leb-false, le-leb, lt-leb}
 use Rattle.words.specs.Scans.{passing, wordWithin, isZero}
 
 module _ (p : ℕ → Bool) (ws : List ℕ) (i w : ℕ) (h : i < length ws) (e : w ≡ getD ws i 0) where
@@ -28,6 +28,23 @@ module _ (p : ℕ → Bool) (ws : List ℕ) (i w : ℕ) (h : i < length ws) (e :
   pub scan-stop : p w ≡ false → passing p (drop i ws) ≡ 0
   unfolding passing
   scan-stop t = rw (cut, t)
+
+-- where k pass, the scan goes on behind them
+pub scan-far : (p : ℕ → Bool) (ws : List ℕ) (k : ℕ) → k ≤ passing p ws → passing p ws ≡ k + passing p (drop k ws)
+unfolding passing
+scan-far p ws zero h = omega arith
+scan-far p [] (suc k) h = absurd (omega arith)
+scan-far p (w ∷ ws) (suc k) h =
+    by-test (λ n. suc k ≤ n → n ≡ suc k + passing p (drop k ws)) (p w) (suc (passing p ws)) 0 (λ _ l. omega (arith, scan-far p ws k (omega arith))) (λ _ l. absurd (omega arith)) h
+
+-- one more passes where those before it do, and it does
+pub one-more-passes : (p : ℕ → Bool) (ws : List ℕ) (k : ℕ) → k < length ws → leb (k + 1) (passing p ws) ≡ (leb k (passing p ws) && p (getD ws k 0))
+one-more-passes p ws k h = by (leb k (passing p ws)) refl (p (getD ws k 0)) refl
+  where
+    by : (s : Bool) → leb k (passing p ws) ≡ s → (t : Bool) → p (getD ws k 0) ≡ t → leb (k + 1) (passing p ws) ≡ (s && t)
+    by true e true f = le-leb (k + 1) (passing p ws) (omega (arith, scan-far p ws k (leb-true k (passing p ws) e), scan-on p ws k _ h refl f))
+    by true e false f = lt-leb (k + 1) (passing p ws) (omega (arith, scan-far p ws k (leb-true k (passing p ws) e), scan-stop p ws k _ h refl f))
+    by false e t f = lt-leb (k + 1) (passing p ws) (omega (arith, leb-false k (passing p ws) e))
 
 -- the scan has come to the end
 pub scan-end : (p : ℕ → Bool) (ws : List ℕ) (i : ℕ) → length ws ≤ i → passing p (drop i ws) ≡ 0
