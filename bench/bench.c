@@ -23,17 +23,17 @@
 /* The calls through pointers, so that the compiler can take none of them out of a loop. */
 struct calls {
     const char *whose;
-    uint64_t (*judge)(const uint8_t *, size_t);
-    conversion *to_lines, *to_block, *repack;
+    judging *judge, *judge_lines;
+    conversion *to_lines, *write_block, *repack;
     uint64_t (*prefix)(uint16_t);
     starting *start;
     amending *amend;
     undoing *undo;
 };
 
-static uint64_t judge_nothing(const uint8_t *block, size_t length)
+static uint64_t judge_nothing(const uint8_t *input, size_t length)
 {
-    (void)block;
+    (void)input;
     return length;
 }
 
@@ -73,12 +73,12 @@ enum { LIBRARY, REFERENCE, NOTHING, SETS };
 
 /* The last ones cost what it costs to make a call. */
 static const struct calls sets[SETS] = {
-    {"library", cedar_judge, cedar_to_lines, cedar_to_block, cedar_repack, cedar_prefix, cedar_sheet_start, cedar_amend,
-     cedar_undo},
-    {"reference", reference_judge, reference_to_lines, reference_to_block, reference_repack, reference_prefix,
-     reference_sheet_start, reference_amend, reference_undo},
-    {"nothing", judge_nothing, convert_nothing, convert_nothing, convert_nothing, prefix_nothing, start_nothing,
-     amend_nothing, undo_nothing},
+    {"library", cedar_judge, cedar_judge_lines, cedar_to_lines, cedar_write_block, cedar_repack, cedar_prefix,
+     cedar_sheet_start, cedar_amend, cedar_undo},
+    {"reference", reference_judge, reference_judge_lines, reference_to_lines, reference_write_block, reference_repack,
+     reference_prefix, reference_sheet_start, reference_amend, reference_undo},
+    {"nothing", judge_nothing, judge_nothing, convert_nothing, convert_nothing, convert_nothing, prefix_nothing,
+     start_nothing, amend_nothing, undo_nothing},
 };
 
 static struct block block;
@@ -232,21 +232,42 @@ static uint64_t to_no_lines(const struct calls *calls)
     return calls->to_lines(block.bytes, block.length, text, 0);
 }
 
-static uint64_t to_block(const struct calls *calls)
+/* Bytes of the text for refusal 22: the last line's last digit is cut off. */
+static size_t bad_length(void)
 {
-    return calls->to_block(text, text_length, written, sizeof written);
+    return text_length - 2;
 }
 
-/* Refusal 22: the last line's last digit is cut off. */
-static uint64_t to_bad_block(const struct calls *calls)
+static uint64_t judge_lines(const struct calls *calls)
 {
-    return calls->to_block(text, text_length - 2, written, sizeof written);
+    return calls->judge_lines(text, text_length);
+}
+
+static uint64_t judge_bad_lines(const struct calls *calls)
+{
+    return calls->judge_lines(text, bad_length());
+}
+
+static uint64_t write_block(const struct calls *calls)
+{
+    return calls->write_block(text, text_length, written, sizeof written);
+}
+
+static uint64_t write_bad_block(const struct calls *calls)
+{
+    return calls->write_block(text, bad_length(), written, sizeof written);
 }
 
 /* Refusal 29. */
-static uint64_t to_no_block(const struct calls *calls)
+static uint64_t write_no_block(const struct calls *calls)
 {
-    return calls->to_block(text, text_length, written, 0);
+    return calls->write_block(text, text_length, written, 0);
+}
+
+/* Both, counted as one call: what was judged is the room that is lent for writing. */
+static uint64_t look_and_write(const struct calls *calls)
+{
+    return calls->write_block(text, text_length, written, cedar_a(judge_lines(calls)));
 }
 
 static uint64_t repack(const struct calls *calls)
@@ -309,13 +330,23 @@ static const struct task {
     {"lines-records", build_records, to_lines, 0},
     {"lines-k", build_k, to_lines, 0},
     {"lines-no-room", build_data, to_no_lines, 29},
-    {"block-data", build_values, to_block, 0},
-    {"block-data-zeros", build_data, to_block, 0},
-    {"block-catalogue", build_catalogue, to_block, 0},
-    {"block-records", build_records, to_block, 0},
-    {"block-k", build_k, to_block, 0},
-    {"block-bad-last-line", build_values, to_bad_block, 22},
-    {"block-no-room", build_values, to_no_block, 29},
+    {"judge-lines-data", build_values, judge_lines, 0},
+    {"judge-lines-data-zeros", build_data, judge_lines, 0},
+    {"judge-lines-catalogue", build_catalogue, judge_lines, 0},
+    {"judge-lines-records", build_records, judge_lines, 0},
+    {"judge-lines-k", build_k, judge_lines, 0},
+    {"judge-lines-bad-last-line", build_values, judge_bad_lines, 22},
+    {"write-data", build_values, write_block, 0},
+    {"write-data-zeros", build_data, write_block, 0},
+    {"write-catalogue", build_catalogue, write_block, 0},
+    {"write-records", build_records, write_block, 0},
+    {"write-k", build_k, write_block, 0},
+    {"write-bad-last-line", build_values, write_bad_block, 22},
+    {"write-no-room", build_values, write_no_block, 29},
+    {"look-write-data", build_values, look_and_write, 0},
+    {"look-write-catalogue", build_catalogue, look_and_write, 0},
+    {"look-write-records", build_records, look_and_write, 0},
+    {"look-write-k", build_k, look_and_write, 0},
     {"repack-half-empty", build_half_empty, repack, 0},
     {"repack-small-blocks", build_small_blocks, repack, 0},
     {"repack-cards", build_card_blocks, repack, 0},
@@ -420,7 +451,7 @@ static void print_times(const struct task *task)
         reference[round] = time_calls(task, &sets[REFERENCE], count) / (double)count;
         ratio[round] = library[round] / reference[round];
     }
-    printf("%-20s %12.1f %12.1f %8.2f\n", task->name, median(library), median(reference), median(ratio));
+    printf("%-25s %12.1f %12.1f %8.2f\n", task->name, median(library), median(reference), median(ratio));
 }
 
 /* The stack is painted in units of a push. */
@@ -468,7 +499,7 @@ static void print_stack(const struct task *task)
 {
     size_t nothing = depth_of(task, &sets[NOTHING]);
 
-    printf("%-20s %12zu %12zu\n", task->name, depth_of(task, &sets[LIBRARY]) - nothing,
+    printf("%-25s %12zu %12zu\n", task->name, depth_of(task, &sets[LIBRARY]) - nothing,
            depth_of(task, &sets[REFERENCE]) - nothing);
 }
 
@@ -509,9 +540,9 @@ int main(int argc, char **argv)
         return 0;
     }
     for_all(check_answer);
-    printf("%-20s %12s %12s %8s\n", "time, ns a call", "library", "reference", "ratio");
+    printf("%-25s %12s %12s %8s\n", "time, ns a call", "library", "reference", "ratio");
     for_all(print_times);
-    printf("\n%-20s %12s %12s\n", "stack, bytes", "library", "reference");
+    printf("\n%-25s %12s %12s\n", "stack, bytes", "library", "reference");
     for_all(print_stack);
     return 0;
 }

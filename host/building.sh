@@ -67,6 +67,10 @@ check "a call with changed crates" ends 1 "$building$newline$answer" call list
 echo >>"$clone/target/bin/listing"
 check "a call with a changed program" ends 1 "$building$newline$answer" call list
 check "two calls at once" together
+rm -r "$clone/target"
+check "a check, which builds what it needs for lines and for blocks" \
+    ends 1 "cedar: proving and building check_lines, which may take some minutes$newline$building${newline}\
+cedar: standard input, taken as lines: the old value is not what stands there, which is 900" call check
 
 rm "$clone/target/bin/listing"
 echo 0 >"$kit/ends"

@@ -53,7 +53,9 @@ on_terminal() {
 }
 
 if on_terminal test -t 1 2>/dev/null; then
-    check "cedar list to a terminal" ends 0 '' on_terminal ./cedar list example/k.block
+    for word in check list; do
+        check "cedar $word to a terminal" ends 0 '' on_terminal ./cedar "$word" example/k.block
+    done
     for word in block repack; do
         check "cedar $word to a terminal" ends 2 'cedar: a block is binary; send it to a file' on_terminal ./cedar "$word" example/k.lines
     done
@@ -79,9 +81,9 @@ fills_up() {
 check "cedar lines of rows" ends 0 '' ./cedar lines "$work/rows.block"
 check "cedar lines without room" fills_up
 
-# stopped STATUS SIGNAL SHELL: how a call that waits for its input ends on the signal. Its temporary folder is gone then.
+# stopped STATUS SIGNAL SHELL WORD: how a call that waits for its input ends on the signal. Its temporary folder is gone then.
 stopped() {
-    TMPDIR=$work/room timeout --foreground --preserve-status -s KILL 20 "$3" ./cedar list - <&4 &
+    TMPDIR=$work/room timeout --foreground --preserve-status -s KILL 20 "$3" ./cedar "$4" - <&4 &
     tries=0
     until [ -n "$(find "$work/room" -name in)" ] || [ $((tries += 1)) -gt 100 ]; do sleep 0.1; done
     kill -s "$2" $!
@@ -98,8 +100,10 @@ mkfifo "$work/idle"
 exec 4<>"$work/idle"
 for shell in sh bash; do
     command -v "$shell" >/dev/null || continue
-    check "cedar in $shell, hung up" stopped 129 HUP "$shell"
-    check "cedar in $shell, interrupted" stopped 130 INT "$shell"
-    check "cedar in $shell, ended" stopped 143 TERM "$shell"
+    for word in check list; do
+        check "cedar $word in $shell, hung up" stopped 129 HUP "$shell" "$word"
+        check "cedar $word in $shell, interrupted" stopped 130 INT "$shell" "$word"
+        check "cedar $word in $shell, ended" stopped 143 TERM "$shell" "$word"
+    done
 done
 exec 4<&-

@@ -22,8 +22,9 @@
 #include "reference.h"
 #include "trial.h"
 
-/* Answers of a text: 0, and 20 to 30. */
+/* Answers of a text: 0, and 20 to 30; judging asks for no output, so it never gives 29. */
 #define TEXT_ANSWERS UINT64_C(0x7ff00001)
+#define JUDGED_ANSWERS (TEXT_ANSWERS & ~ANSWER(29))
 
 static uint64_t make_judge(const struct trial *trial)
 {
@@ -37,16 +38,22 @@ static uint64_t make_to_lines(const struct trial *trial)
     return cedar_to_lines(block->copy, block->length, text->copy, text->length);
 }
 
-static uint64_t make_to_block(const struct trial *trial)
+static uint64_t make_judge_lines(const struct trial *trial)
+{
+    return cedar_judge_lines(trial->lent[0].copy, trial->lent[0].length);
+}
+
+static uint64_t make_write_block(const struct trial *trial)
 {
     const struct lent *text = &trial->lent[0], *block = &trial->lent[1];
 
-    return cedar_to_block(text->copy, text->length, block->copy, block->length);
+    return cedar_write_block(text->copy, text->length, block->copy, block->length);
 }
 
 static struct call judge = {"judge", make_judge, 1, 0, BLOCK_ANSWERS, {0}};
 static struct call to_lines = {"to lines", make_to_lines, 2, 0, BLOCK_ANSWERS | ANSWER(29), {0}};
-static struct call to_block = {"to block", make_to_block, 2, 0, TEXT_ANSWERS, {0}};
+static struct call judge_lines = {"judge lines", make_judge_lines, 1, 0, JUDGED_ANSWERS, {0}};
+static struct call write_block = {"write block", make_write_block, 2, 0, TEXT_ANSWERS, {0}};
 
 /* Buffers that the call must leave as they are. */
 static struct lent lend_block(const struct block *block)
@@ -88,21 +95,67 @@ static void compare_to_lines(struct trials *trials, struct chance *chance, const
             compare_output(trials, chance, &to_lines, reference_to_lines, input, lengths[i]);
 }
 
-/* Blocks about as long as the text needs; a text that is refused gets one of any length. */
-static void compare_to_block(struct trials *trials, struct chance *chance, const struct text *text)
+static void compare_judge_lines(struct trials *trials, const struct text *text, uint64_t judged)
+{
+    struct trial trial = {&judge_lines, judged, {lend_text(text)}, {0}};
+
+    try_call(trials, &trial);
+}
+
+/* Blocks about as long as the text was judged to need; a text that is refused gets one of any length. */
+static void compare_write_block(struct trials *trials, struct chance *chance, const struct text *text, uint64_t judged)
 {
     struct lent input = lend_text(text);
-    uint64_t answer = reference_to_block(text->bytes, text->length, NULL, 0);
-    size_t needed = cedar_n(answer) == 29 ? cedar_a(answer) : between(chance, 2, CEDAR_BLOCK_MOST);
+    bool accepted = cedar_n(judged) == 0;
+    size_t needed = accepted ? cedar_a(judged) : between(chance, 2, CEDAR_BLOCK_MOST);
     const size_t shorter[] = {0, 1, needed - 2, needed - 1, between(chance, 0, needed - 1)};
     const size_t longer[] = {needed + 1, needed + 2, CEDAR_BLOCK_MOST, 65535 + needed, BLOCK_ROOM};
 
     if (one_in(chance, 2))
-        compare_output(trials, chance, &to_block, reference_to_block, input, PICK(chance, shorter));
+        compare_output(trials, chance, &write_block, reference_write_block, input, PICK(chance, shorter));
     else
-        compare_output(trials, chance, &to_block, reference_to_block, input, PICK(chance, longer));
-    if (cedar_n(answer) == 29)
-        compare_output(trials, chance, &to_block, reference_to_block, input, needed);
+        compare_output(trials, chance, &write_block, reference_write_block, input, PICK(chance, longer));
+    if (accepted)
+        compare_output(trials, chance, &write_block, reference_write_block, input, needed);
+}
+
+/* What writing into so many bytes must answer, by what the library's judging answered alone. */
+static uint64_t foretold(uint64_t judged, size_t length)
+{
+    return cedar_n(judged) == 0 && cedar_a(judged) > length ? pack(29, cedar_a(judged), 0, 0) : judged;
+}
+
+/* Writes into so many bytes of a block that has more; those that judging did not foretell stay. */
+static void check_foretold(struct trials *trials, struct chance *chance, const struct text *text, uint64_t judged,
+                           uint8_t *block, size_t length)
+{
+    const uint8_t *before = noise_for(chance);
+    uint64_t answer = foretold(judged, length);
+    uint64_t written;
+
+    memcpy(block, before, CEDAR_BLOCK_MOST);
+    written = cedar_write_block(text->bytes, text->length, block, length);
+    if (case_fails(trials, "judged, then written",
+                   written == answer && rest_stays(answer, before, block, CEDAR_BLOCK_MOST))) {
+        print_answer("judge lines", judged);
+        print_answer("write block", written);
+        printf("  block, %zu bytes\n", length);
+    }
+}
+
+/* The pair on the library's own numbers: any length, a byte less than judged, and just that, whose block is left. */
+static uint64_t check_pair(struct trials *trials, struct chance *chance, const struct text *text, uint8_t *block)
+{
+    uint64_t judged = cedar_judge_lines(text->bytes, text->length);
+    size_t size = cedar_n(judged) == 0 ? cedar_a(judged) : between(chance, 1, CEDAR_BLOCK_MOST);
+    const size_t lengths[] = {between(chance, 0, CEDAR_BLOCK_MOST), size - 1, size};
+    bool sized = size > 0 && size <= CEDAR_BLOCK_MOST;
+
+    if (case_fails(trials, "a block's size", sized))
+        print_answer("judge lines", judged);
+    for (size_t i = 0; sized && i < sizeof lengths / sizeof lengths[0]; i++)
+        check_foretold(trials, chance, text, judged, block, lengths[i]);
+    return judged;
 }
 
 /* The library's lines of a block that it accepts are read as this block; so they are their own standard lines. */
@@ -110,12 +163,12 @@ static void check_return(struct trials *trials, const uint8_t *block, size_t len
 {
     static uint8_t text[CEDAR_TEXT_MOST], again[CEDAR_BLOCK_MOST];
     uint64_t lined = cedar_to_lines(block, length, text, sizeof text);
-    uint64_t read = cedar_to_block(text, cedar_a(lined), again, sizeof again);
+    uint64_t read = cedar_write_block(text, cedar_a(lined), again, sizeof again);
     bool same = cedar_n(lined) == 0 && read == pack(0, length, 0, 0) && memcmp(again, block, length) == 0;
 
     if (case_fails(trials, "there and back", same)) {
         print_answer("to lines", lined);
-        print_answer("to block", read);
+        print_answer("write block", read);
     }
 }
 
@@ -147,13 +200,16 @@ static void compare_text(struct trials *trials, struct chance *chance)
 {
     static struct text text;
     static uint8_t block[CEDAR_BLOCK_MOST];
-    uint64_t read;
+    uint64_t judged;
 
     generate_text(chance, trials->number, &text);
-    compare_to_block(trials, chance, &text);
-    read = cedar_to_block(text.bytes, text.length, block, sizeof block);
-    if (cedar_n(read) == 0)
-        check_return(trials, block, cedar_a(read));
+    judged = reference_judge_lines(text.bytes, text.length);
+    /* Written first, so that another text is the last one judged. */
+    compare_write_block(trials, chance, &text, judged);
+    compare_judge_lines(trials, &text, judged);
+    judged = check_pair(trials, chance, &text, block);
+    if (cedar_n(judged) == 0)
+        check_return(trials, block, cedar_a(judged));
 }
 
 static void compare_case(struct trials *trials, uint64_t number)
@@ -178,7 +234,8 @@ static void compare_all(struct trials *trials, uint64_t cases)
         compare_case(trials, number);
     print_reached(trials, &judge);
     print_reached(trials, &to_lines);
-    print_reached(trials, &to_block);
+    print_reached(trials, &judge_lines);
+    print_reached(trials, &write_block);
     print_sheet_reached(trials);
     print_repack_reached(trials);
     printf("%lu passed, %lu failed\n", trials->tally.passed, trials->tally.failed);

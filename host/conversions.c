@@ -17,8 +17,12 @@ void draw_noise(void)
         noise[i] = (uint8_t)draw(&chance);
 }
 
-/* Whether the answer accounts for every byte that was written. */
-static bool rest_stays(uint64_t answer, const uint8_t *before, const uint8_t *after, size_t length)
+const uint8_t *noise_for(struct chance *chance)
+{
+    return noise + between(chance, 0, STARTS);
+}
+
+bool rest_stays(uint64_t answer, const uint8_t *before, const uint8_t *after, size_t length)
 {
     size_t written = cedar_n(answer) == 0 ? cedar_a(answer) : 0;
 
@@ -29,7 +33,7 @@ void compare_output(struct trials *trials, struct chance *chance, struct call *c
                     struct lent input, size_t length)
 {
     static uint8_t after[LENT_ROOM];
-    const uint8_t *before = noise + between(chance, 0, STARTS);
+    const uint8_t *before = noise_for(chance);
     struct lent output = {"output", length, before, memcpy(after, before, length), NULL, LENGTH_ONLY};
     struct trial trial = {call, reference(input.before, input.length, after, length), {input, output}, {0}};
 

@@ -12,8 +12,8 @@
 /* K's NROW and its record's word 22, as words of the block. */
 enum { K_NROW = 1 + NROW, K_VALUE = 1 + 22 };
 
-/* Bytes of K's text, and of those before its JPAR, and before columns 7 to 12 of line 5, where word 22 stands. */
-enum { K_TEXT = 150, BEFORE_JPAR = FIELD_COLUMNS * (JPAR - 1), BEFORE_VALUE = 130 };
+/* Bytes of K, of its text, and of those before its JPAR, and before columns 7 to 12 of line 5, where word 22 stands. */
+enum { K_BYTES = 52, K_TEXT = 150, BEFORE_JPAR = FIELD_COLUMNS * (JPAR - 1), BEFORE_VALUE = 130 };
 
 static void check(struct tally *tally, const char *what, bool holds)
 {
@@ -43,6 +43,44 @@ static bool writes(conversion *call, struct bytes input, struct bytes output)
            memcmp(written, output.at, output.length) == 0;
 }
 
+/* The pair that makes a block of a text, of the library or of the reference. */
+struct text_calls {
+    judging *judge;
+    conversion *write;
+};
+
+static const struct text_calls library = {cedar_judge_lines, cedar_write_block};
+static const struct text_calls reference = {reference_judge_lines, reference_write_block};
+
+/* Whether judging tells the size of this block, and writing asks for that size and takes it. */
+static bool accepts(struct text_calls calls, struct bytes text, struct bytes block)
+{
+    return calls.judge(text.at, text.length) == pack(0, block.length, 0, 0) && writes(calls.write, text, block);
+}
+
+static void check_accepted(struct tally *tally, const char *what, struct bytes text, struct bytes block)
+{
+    check(tally, what, accepts(library, text, block) && accepts(reference, text, block));
+}
+
+/* Whether judging and writing give this refusal, and the block stays as it was. */
+static bool refuses(struct text_calls calls, struct bytes text, uint64_t answer)
+{
+    static uint8_t before[CEDAR_BLOCK_MOST], block[CEDAR_BLOCK_MOST];
+
+    memset(before, '*', sizeof before);
+    memset(block, '*', sizeof block);
+    return calls.judge(text.at, text.length) == answer &&
+           calls.write(text.at, text.length, block, sizeof block) == answer && memcmp(block, before, sizeof block) == 0;
+}
+
+static void check_refused(struct tally *tally, const char *what, const uint8_t *text, size_t length, uint64_t answer)
+{
+    struct bytes lines = {text, length};
+
+    check(tally, what, refuses(library, lines, answer) && refuses(reference, lines, answer));
+}
+
 /* The block's text is this one, and is read as the block. */
 static void check_text(struct tally *tally, const char *what, const struct block *block, const uint8_t *text,
                        size_t length)
@@ -50,7 +88,7 @@ static void check_text(struct tally *tally, const char *what, const struct block
     struct bytes lines = {text, length}, words = {block->bytes, block->length};
 
     check(tally, what, writes(cedar_to_lines, words, lines) && writes(reference_to_lines, words, lines));
-    check(tally, what, writes(cedar_to_block, lines, words) && writes(reference_to_block, lines, words));
+    check_accepted(tally, what, lines, words);
 }
 
 /* A text of which only the length is given. */
@@ -81,15 +119,6 @@ static void check_file(struct tally *tally, const char *name, const struct block
     size_t length = read_file(name, bytes, sizeof bytes);
 
     check(tally, name, length == block->length && memcmp(bytes, block->bytes, length) == 0);
-}
-
-static void check_read(struct tally *tally, const char *what, const uint8_t *text, size_t length, uint64_t answer)
-{
-    static uint8_t block[CEDAR_BLOCK_MOST];
-
-    check(tally, what,
-          cedar_to_block(text, length, block, sizeof block) == answer &&
-              reference_to_block(text, length, block, sizeof block) == answer);
 }
 
 static size_t lines_in(const uint8_t *text, size_t length)
@@ -174,7 +203,7 @@ static void check_good_field(struct tally *tally, const char *columns, int value
     put_word(block.bytes, K_VALUE, (uint16_t)value);
     block_seal(&block);
     words.length = block.length;
-    check(tally, columns, writes(cedar_to_block, lines, words) && writes(reference_to_block, lines, words));
+    check_accepted(tally, columns, lines, words);
 }
 
 static void check_bad_columns(struct tally *tally, size_t before, const char *columns, uint64_t answer)
@@ -183,7 +212,7 @@ static void check_bad_columns(struct tally *tally, size_t before, const char *co
     uint8_t text[K_TEXT];
 
     k_with(&block, text, before, columns);
-    check_read(tally, columns, text, sizeof text, answer);
+    check_refused(tally, columns, text, sizeof text, answer);
 }
 
 /* Example 7. */
@@ -197,6 +226,23 @@ static void check_fields(struct tally *tally)
     check_bad_columns(tally, BEFORE_VALUE, "032768", pack(22, 5, 7, 0));
     check_bad_columns(tally, BEFORE_VALUE, "12    ", pack(22, 5, 7, 0));
     check_bad_columns(tally, BEFORE_VALUE, "      ", pack(22, 5, 7, 0));
+}
+
+/* Columns put into lines after these were judged: writing answers for the lines that it finds, in either direction. */
+static void check_judged_again(struct tally *tally, struct text_calls calls)
+{
+    static struct block block;
+    uint8_t text[K_TEXT], written[K_BYTES];
+    uint64_t size = pack(0, sizeof written, 0, 0), bad_field = pack(22, 5, 7, 0);
+
+    k_with(&block, text, BEFORE_VALUE, "   900");
+    check(tally, "good lines", calls.judge(text, sizeof text) == size);
+    memcpy(text + BEFORE_VALUE, "-32769", FIELD_COLUMNS);
+    check(tally, "good lines, then bad", calls.write(text, sizeof text, written, sizeof written) == bad_field);
+    check(tally, "bad lines", calls.judge(text, sizeof text) == bad_field);
+    memcpy(text + BEFORE_VALUE, "   900", FIELD_COLUMNS);
+    check(tally, "bad lines, then good", calls.write(text, sizeof text, written, sizeof written) == size);
+    check(tally, "bad lines, then good, block", memcmp(written, block.bytes, sizeof written) == 0);
 }
 
 /* JPAR, MPAR and NROW: their sum is K's again in 16 bits; it is negative in 16 bits; MPAR is too low. */
@@ -238,11 +284,11 @@ static void check_line_counts(struct tally *tally)
     block_of_most_cards(&block);
     length = cedar_a(reference_to_lines(block.bytes, block.length, text, sizeof text));
     memcpy(text, "   200", FIELD_COLUMNS);
-    check_read(tally, "example 9, field 1 of 200", text, length, pack(24, 1, 1, 0));
+    check_refused(tally, "example 9, field 1 of 200", text, length, pack(24, 1, 1, 0));
     memcpy(text, "     0", FIELD_COLUMNS);
-    check_read(tally, "field 1 of 0", text, length, pack(24, 1, 1, 0));
+    check_refused(tally, "field 1 of 0", text, length, pack(24, 1, 1, 0));
     memcpy(text, "   199", FIELD_COLUMNS);
-    check_read(tally, "a line that lacks", text, length - 81, pack(25, 199, 1, 0));
+    check_refused(tally, "a line that lacks", text, length - 81, pack(25, 199, 1, 0));
 }
 
 /* As many lines as a text can have, and their last one. */
@@ -252,13 +298,13 @@ static void check_most_lines(struct tally *tally)
     uint8_t *last = &text[TEXT_MOST - 1];
 
     memset(text, '\n', sizeof text);
-    check_read(tally, "no line", text, 0, pack(21, 0, 0, 0));
-    check_read(tally, "only empty lines", text, TEXT_MOST, pack(21, 0, 0, 0));
-    check_read(tally, "a line too many", text, TEXT_MOST + 1, pack(30, 0, 0, 0));
+    check_refused(tally, "no line", text, 0, pack(21, 0, 0, 0));
+    check_refused(tally, "only empty lines", text, TEXT_MOST, pack(21, 0, 0, 0));
+    check_refused(tally, "a line too many", text, TEXT_MOST + 1, pack(30, 0, 0, 0));
     *last = '0';
-    check_read(tally, "line 65,536 without a field", text, TEXT_MOST, pack(22, TEXT_MOST, 1, 0));
+    check_refused(tally, "line 65,536 without a field", text, TEXT_MOST, pack(22, TEXT_MOST, 1, 0));
     *last = CARD_MOST + 1;
-    check_read(tally, "line 65,536 with a bad byte", text, TEXT_MOST, pack(20, TEXT_MOST, 1, 0));
+    check_refused(tally, "line 65,536 with a bad byte", text, TEXT_MOST, pack(20, TEXT_MOST, 1, 0));
 }
 
 /* The calls on a sheet, of the library or of the reference; and K with its sheet, which they change. */
@@ -463,6 +509,8 @@ void check_paper(struct tally *tally)
     check_smallest(tally);
     check_largest(tally);
     check_fields(tally);
+    check_judged_again(tally, library);
+    check_judged_again(tally, reference);
     check_counts(tally);
     check_line_counts(tally);
     check_most_lines(tally);

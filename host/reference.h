@@ -10,7 +10,8 @@ static inline uint64_t pack(uint64_t n, uint64_t a, uint64_t b, uint64_t c)
     return n << 56 | a << 32 | b << 16 | c;
 }
 
-/* A call that writes one buffer from another. */
+/* A call that judges a buffer, and one that writes a buffer from another. */
+typedef uint64_t judging(const uint8_t *input, size_t length);
 typedef uint64_t conversion(const uint8_t *input, size_t input_length, uint8_t *output, size_t output_length);
 
 /* The calls on an amendment sheet. */
@@ -21,7 +22,8 @@ typedef uint64_t undoing(uint8_t *block, size_t block_length, uint8_t *sheet, si
 
 uint64_t reference_judge(const uint8_t *block, size_t length);
 uint64_t reference_to_lines(const uint8_t *block, size_t block_length, uint8_t *text, size_t text_length);
-uint64_t reference_to_block(const uint8_t *text, size_t text_length, uint8_t *block, size_t block_length);
+uint64_t reference_judge_lines(const uint8_t *text, size_t text_length);
+uint64_t reference_write_block(const uint8_t *text, size_t text_length, uint8_t *block, size_t block_length);
 uint64_t reference_prefix(uint16_t instrument);
 starting reference_sheet_start;
 amending reference_amend;

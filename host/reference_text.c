@@ -3,6 +3,7 @@
 #include <stdbool.h>
 #include <string.h>
 
+#include "cedar.h"
 #include "format.h"
 #include "words.h"
 
@@ -286,24 +287,30 @@ static uint64_t read_records(struct reader *reader)
     return reader->words == 0 ? pack(21, 0, 0, 0) : 0;
 }
 
-uint64_t reference_to_block(const uint8_t *text, size_t text_length, uint8_t *block, size_t block_length)
+uint64_t reference_judge_lines(const uint8_t *text, size_t text_length)
 {
     struct reader reader = {.next = text, .end = text + text_length};
-    struct reader writer = reader;
     uint64_t refused;
-    size_t words;
 
     if (text_length > TEXT_MOST)
         return pack(30, 0, 0, 0);
     refused = read_records(&reader);
-    if (refused != 0)
-        return refused;
-    words = reader.words + 2;
-    if (block_length < bytes_of(words))
-        return pack(29, bytes_of(words), 0, 0);
+    return refused != 0 ? refused : pack(0, bytes_of(reader.words + 2), 0, 0);
+}
+
+uint64_t reference_write_block(const uint8_t *text, size_t text_length, uint8_t *block, size_t block_length)
+{
+    struct reader writer = {.next = text, .end = text + text_length};
+    uint64_t judged = reference_judge_lines(text, text_length);
+    size_t words = words_of(cedar_a(judged));
+
+    if (cedar_n(judged) != 0)
+        return judged;
+    if (block_length < cedar_a(judged))
+        return pack(29, cedar_a(judged), 0, 0);
     writer.to = block + bytes_of(1);
     read_records(&writer);
     put_word(block, 1, (uint16_t)words);
     put_word(block, words, exclusive_or(block, words - 1));
-    return pack(0, bytes_of(words), 0, 0);
+    return judged;
 }

@@ -143,12 +143,14 @@ void try_call(struct trials *trials, struct trial *trial)
 
 void print_reached(struct trials *trials, const struct call *call)
 {
-    printf("%-8s %4s %9s\n", call->name, "n", "reached");
+    printf("%-11s %4s %9s\n", call->name, "n", "reached");
     for (int n = 0; n < ANSWERS; n++) {
-        if ((call->gives >> n & 1) == 0)
+        bool given = (call->gives >> n & 1) != 0, reached = call->reached[n] > 0;
+
+        if (!given && !reached)
             continue;
-        printf("%-8s %4d %9lu\n", "", n, call->reached[n]);
-        if (tally_fails(&trials->tally, call->reached[n] > 0))
-            printf("FAILED answer %d of %s was not reached\n", n, call->name);
+        printf("%-11s %4d %9lu\n", "", n, call->reached[n]);
+        if (tally_fails(&trials->tally, given && reached))
+            printf("FAILED answer %d of %s was %s\n", n, call->name, given ? "not reached" : "reached");
     }
 }

@@ -63,7 +63,7 @@ bool case_fails(struct trials *trials, const char *what, bool holds);
 
 void print_answer(const char *whose, uint64_t answer);
 
-/* How often each answer was due; one that never was is a failure too. */
+/* How often each answer was due; one that never was is a failure too, and one that the call cannot give. */
 void print_reached(struct trials *trials, const struct call *call);
 
 #endif

@@ -127,11 +127,10 @@ uint64_t cedar_to_lines(const uint8_t *block, size_t block_length, uint8_t *text
 enum { CEDAR_READ_MOST = 65536, CEDAR_BLOCK_MOST = 16000 };
 
 /*
- * Writes the block of the lines in the `text_length` bytes at `text` to `block`.
- * The block has room for `block_length` bytes.
+ * Judges the lines in the `text_length` bytes at `text`, and tells how many bytes their block needs; writes nothing.
  *
  *   n   given when                                         a               b               c
- *   0   the block is written                               bytes written
+ *   0   the lines are accepted                             bytes needed
  *   20  a line has a column past 120, or a byte            line            that column
  *       that is not 32 to 126
  *   21  the text has no record
@@ -148,11 +147,9 @@ enum { CEDAR_READ_MOST = 65536, CEDAR_BLOCK_MOST = 16000 };
  *       JPAR, MPAR, NROW 0)
  *   28  with this record the text has over 7,998 record    line            1
  *       words
- *   29  the output is shorter than needed                  bytes needed
  *   30  the text is over 65,536 bytes
  *
- * Tried in this order: 30, then line by line, and at the end 21, then 29; the first that holds is the answer.
- * So a call with block_length 0, and any block but NULL, asks how many bytes an accepted text needs.
+ * Tried in this order: 30, then line by line, and at the end 21; the first that holds is the answer.
  * Blank lines outside of records: 20.
  * A record's first line: 20, fields 1 to 12 by 22, 23, then by kind
  *   Catalogue: fields 13 to 20, each by 22 and 26; then 24, 28.
@@ -161,9 +158,25 @@ enum { CEDAR_READ_MOST = 65536, CEDAR_BLOCK_MOST = 16000 };
  * Its later lines: 25, 20, fields by 22, columns after them or after a card by 26.
  * For 28 a record has the words that field 1, or for Data the counts, ask for, even if its lines are not there.
  * Where several places of a line are wrong in the same way, b is the first of them.
+ */
+uint64_t cedar_judge_lines(const uint8_t *text, size_t text_length);
+
+/*
+ * Writes the block of the lines in the `text_length` bytes at `text` to `block`.
+ * The block has room for `block_length` bytes.
+ *
+ *   n             given when                               a               b               c
+ *   0             the block is written                     bytes written
+ *   20 to 28, 30  cedar_judge_lines refuses the text       as there        as there
+ *   29            the output is shorter than needed        bytes needed
+ *
+ * Tried in this order: 20 to 28 and 30 as there, then 29.
+ * To look before you write: judge the lines, find a buffer of cedar_a(answer) bytes, write into it.
+ * This call judges again, so a text that was changed in between, or that was never judged, is safe.
+ * Where there are CEDAR_BLOCK_MOST bytes anyway this call alone will do: it reads the text twice, the pair three times.
  * Bytes of the block past those written stay as they are.
  */
-uint64_t cedar_to_block(const uint8_t *text, size_t text_length, uint8_t *block, size_t block_length);
+uint64_t cedar_write_block(const uint8_t *text, size_t text_length, uint8_t *block, size_t block_length);
 
 /* Bytes of the blocks that are repacked together, at most. They suffice for the blocks that come out, too. */
 enum { CEDAR_REPACK_MOST = 64000 };

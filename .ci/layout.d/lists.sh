@@ -30,5 +30,5 @@ calls() {
 calls_offered() {
     awk -F '|' '/^## / { here = $0 == "## The calls" }
         here && /^\|/ { print $3 }' README.md | grep -oE '[a-z0-9_]+::[a-z0-9_]+'
-    grep -ohE 'printed::[a-z0-9_]+' crates/*/src/main.rt
+    grep -ohE '(printed|listed|read_text)::[a-z0-9_]+' crates/*/src/main.rt
 }

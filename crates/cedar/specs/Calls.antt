@@ -5,12 +5,17 @@ use Rattle.units.specs.declared.Answer.{Answer}
 use Rattle.units.specs.Answers.{answered, packedOf}
 use Rattle.words.specs.Outcomes.{Written}
 use Rattle.block.specs.Judging.{judged}
+use Rattle.read_text.specs.Block.{judgeLines}
 use Rattle.amending.specs.Amending.{Outcome}
 use Rattle.prefix.specs.Table.{prefixOf, answerOf}
 
 -- "Judge a binary block": the number of records, or the first refusal
 abbrev pub judgeAnswer : List ℕ → Answer
 judgeAnswer block = answered (judged block)
+
+-- document 02, request 2: "judges the text and gives the block's size in bytes"
+abbrev pub judgeLinesAnswer : List ℕ → Answer
+judgeLinesAnswer text = answered (judgeLines text)
 
 -- "find an instrument's prefix"
 abbrev pub prefixAnswer : ℕ → Answer

@@ -4,11 +4,11 @@ use mathlib.Core.List.{List}
 use Prim.Native.Nat.{ℕ}
 use Rattle.units.specs.Answers.{packedOf}
 use Rattle.write_lines.specs.Text.{toLines}
-use Rattle.read_text.specs.Block.{toBlock}
+use Rattle.read_text.specs.Block.{writeBlock}
 use Rattle.sheet.specs.Sheets.{Entry, version1, started}
 use Rattle.amending.specs.Amending.{amend, undo}
 use Rattle.repacking.specs.Repacking.{repack}
-use Rattle.cedar.specs.Calls.{judgeAnswer, prefixAnswer, returned, converted, returnedBoth, amendedBoth}
+use Rattle.cedar.specs.Calls.{judgeAnswer, judgeLinesAnswer, prefixAnswer, returned, converted, returnedBoth, amendedBoth}
 
 -- `cedar_judge`
 abbrev pub CedarJudges : List ℕ → ℕ → Type 0
@@ -22,9 +22,13 @@ CedarFindsPrefix instrument r = r ≡ packedOf (prefixAnswer instrument)
 abbrev pub CedarWritesLines : List ℕ → List ℕ → ℕ → List ℕ → Type 0
 CedarWritesLines block text r after = returned r after ≡ converted (toLines block text)
 
--- `cedar_to_block`, and the block afterwards
+-- `cedar_judge_lines`
+abbrev pub CedarJudgesLines : List ℕ → ℕ → Type 0
+CedarJudgesLines text r = r ≡ packedOf (judgeLinesAnswer text)
+
+-- `cedar_write_block`, and the block afterwards
 abbrev pub CedarWritesBlock : List ℕ → List ℕ → ℕ → List ℕ → Type 0
-CedarWritesBlock text block r after = returned r after ≡ converted (toBlock text block)
+CedarWritesBlock text block r after = returned r after ≡ converted (writeBlock text block)
 
 -- `cedar_sheet_start`, and the sheet afterwards
 abbrev pub CedarStartsSheet : List ℕ → ℕ → List ℕ → Type 0

@@ -1,7 +1,7 @@
 // The calls for C, and nothing else: each returns its answer's four numbers as one.
 use sheet::Amendment;
 ghost use mathlib.Core.List.{[], _∷_};
-ghost use Rattle.cedar.specs.Promises.{CedarJudges, CedarFindsPrefix, CedarWritesLines, CedarWritesBlock, CedarStartsSheet, CedarAmends, CedarUndoes, CedarRepacks};
+ghost use Rattle.cedar.specs.Promises.{CedarJudges, CedarFindsPrefix, CedarWritesLines, CedarJudgesLines, CedarWritesBlock, CedarStartsSheet, CedarAmends, CedarUndoes, CedarRepacks};
 
 // uint64_t cedar_judge(const uint8_t *block, size_t length);
 #[no_mangle]
@@ -30,13 +30,22 @@ pub extern "C" fn cedar_to_lines(block: &[u8], text: &mut [u8]) -> u64
     units::pack(write_lines::numbers(lined))
 }
 
-// uint64_t cedar_to_block(const uint8_t *text, size_t text_length, uint8_t *block, size_t block_length);
+// uint64_t cedar_judge_lines(const uint8_t *text, size_t text_length);
 #[no_mangle]
-pub extern "C" fn cedar_to_block(text: &[u8], block: &mut [u8]) -> u64
+pub extern "C" fn cedar_judge_lines(text: &[u8]) -> u64
+    ensures { λ r. ⌜ CedarJudgesLines (now (text .entry)) r ⌝ }
+{
+    let judged = read_text::judge_lines(text);
+    units::pack(read_text::judged_numbers(judged))
+}
+
+// uint64_t cedar_write_block(const uint8_t *text, size_t text_length, uint8_t *block, size_t block_length);
+#[no_mangle]
+pub extern "C" fn cedar_write_block(text: &[u8], block: &mut [u8]) -> u64
     ensures { λ r. ⌜ CedarWritesBlock (now (text .entry)) (now (block .entry)) r (now (block .exit)) ⌝ }
 {
-    let built = read_text::to_block(text, block);
-    units::pack(read_text::numbers(built))
+    let built = read_text::write_block(text, block);
+    units::pack(read_text::built_numbers(built))
 }
 
 // uint64_t cedar_sheet_start(uint8_t *sheet, size_t length);

@@ -15,7 +15,7 @@ use Rattle.units.specs.declared.Bytes.{Bytes}
 use Rattle.units.specs.Answers.{Verdict, passed, refused, answered}
 use Rattle.words.specs.Outcomes.{Written, leaves}
 use Rattle.write_lines.specs.Text.{toLines}
-use Rattle.read_text.specs.Block.{toBlock}
+use Rattle.read_text.specs.Block.{writeBlock}
 use Rattle.sheet.specs.Sheets.{version1, started}
 use Rattle.record.specs.declared.Fault.the-variants.{Short, Kind, Total, NotZero, Card, Counts}
 use Rattle.block.specs.declared.Judged.{Judged}
@@ -30,13 +30,13 @@ use Rattle.write_lines.specs.Cases.{linedOf}
 use Rattle.read_columns.specs.declared.Flaw.{Flaw}
 use Rattle.read_columns.specs.declared.Flaw.the-variants.{Byte, NoRecord, Field, Count, Ends, NotBlank, Range, Much, Long}
 use Rattle.read_columns.specs.declared.Flaw.the-variants as columns
-use Rattle.read_records.specs.declared.Content.{Content}
-use Rattle.read_records.specs.declared.Content.the-variants.{Flawed}
-use Rattle.read_records.specs.declared.Content.the-variants as text
+use Rattle.read_text.specs.declared.Judged as looked
+use Rattle.read_text.specs.declared.Judged.the-variants as text
 use Rattle.read_text.specs.declared.Built.{Built}
 use Rattle.read_text.specs.declared.Built.the-variants.{Block}
 use Rattle.read_text.specs.declared.Built.the-variants as built
-use Rattle.read_text.specs.Cases.{contentOf, builtOf}
+use Rattle.read_text.specs.Cases.{builtOf}
+use Rattle.read_text.specs.Cases as looking
 use Rattle.sheet.specs.declared.Opened.{Opened}
 use Rattle.sheet.specs.declared.Opened.the-variants as sheet
 use Rattle.sheet.specs.Cases.{openedOf}
@@ -52,9 +52,9 @@ use Rattle.repacking.specs.declared.Repacked.the-variants as repacked
 use Rattle.repacking.specs.Cases.{repackedOf}
 use Rattle.repacking.specs.Repacking.{repack}
 use Rattle.cedar.specs.Calls.{Returned, returned, converted, ReturnedBoth, returnedBoth, amendedBoth}
-use Rattle.printed.specs.Listing.{listingOf}
-use Rattle.printed.specs.Printed.{linesPrinted, blockPrinted, blocksPrinted}
-use Rattle.demands.specs.Agree.{FixesOne, FixesTwo, OpenNotFixed, JudgeAgrees, StepAgrees, FindAgrees, PrefixAgrees, LinesAgree, ContentAgrees, BlockAgrees, OpenAgrees, StartAgrees, AmendAgrees, UndoAgrees, RepackAgrees, CedarJudgeAgrees, CedarPrefixAgrees, CedarLinesAgree, CedarBlockAgrees, CedarStartAgrees, CedarAmendAgrees, CedarUndoAgrees, CedarRepackAgrees, PutAgrees, PrintedListingAgrees, PrintedLinesAgree, PrintedBlockAgrees, PrintedBlocksAgree}
+use Rattle.listed.specs.Listing.{listingOf}
+use Rattle.printed.specs.Printed.{linesPrinted, sizePrinted, blockPrinted, blocksPrinted}
+use Rattle.demands.specs.Agree.{FixesOne, FixesTwo, OpenNotFixed, JudgeAgrees, StepAgrees, FindAgrees, PrefixAgrees, LinesAgree, JudgeLinesAgrees, BlockAgrees, OpenAgrees, StartAgrees, AmendAgrees, UndoAgrees, RepackAgrees, CedarJudgeAgrees, CedarPrefixAgrees, CedarLinesAgree, CedarJudgeLinesAgrees, CedarBlockAgrees, CedarStartAgrees, CedarAmendAgrees, CedarUndoAgrees, CedarRepackAgrees, PutAgrees, PrintedListingAgrees, PrintedLinesAgree, PrintedSizeAgrees, PrintedBlockAgrees, PrintedBlocksAgree}
 
 -- the case that a refusal's numbers tell
 refusalCase : Answer → Refusal
@@ -159,14 +159,14 @@ flawIn (Block size) = Long
 flawIn (built.Refused f) = f
 flawIn (built.Short size) = Long
 
-contentCase : Verdict ℕ → Content
-contentCase (passed n) = text.RecordWords (record { 0 = n })
-contentCase (refused r) = Flawed (flawIn (builtCase r))
+sizeCase : Verdict ℕ → looked.Judged
+sizeCase (passed n) = text.Size (record { 0 = n })
+sizeCase (refused r) = text.Flawed (flawIn (builtCase r))
 
-content-back : (r : Content) → contentCase (contentOf r) ≡ r
-unfolding contentCase flawIn
-content-back (text.RecordWords n) = refl
-content-back (Flawed f) = ap (λ x. Flawed (flawIn x)) (built-back (built.Refused f))
+size-back : (r : looked.Judged) → sizeCase (looking.judgedOf r) ≡ r
+unfolding sizeCase flawIn
+size-back (text.Size n) = refl
+size-back (text.Flawed f) = ap (λ x. text.Flawed (flawIn x)) (built-back (built.Refused f))
 
 -- the case that the numbers of a sheet tell
 openedCase : Answer → Opened
@@ -272,11 +272,11 @@ written-agree of case back o r s t u p q = let e = same p q in (by-case of case 
 pub lines-agree : LinesAgree
 lines-agree block text r s t u p q = written-agree linedOf linedCase lined-back (toLines block text) r s t u (p .outcome) (q .outcome)
 
-pub content-agrees : ContentAgrees
-content-agrees text r s p q = by-case contentOf contentCase content-back r s (same (p .outcome) (q .outcome))
+pub judge-lines-agrees : JudgeLinesAgrees
+judge-lines-agrees lines r s p q = by-case looking.judgedOf sizeCase size-back r s (same (p .outcome) (q .outcome))
 
 pub block-agrees : BlockAgrees
-block-agrees text block r s t u p q = written-agree builtOf builtCase built-back (toBlock text block) r s t u (p .outcome) (q .outcome)
+block-agrees text block r s t u p q = written-agree builtOf builtCase built-back (writeBlock text block) r s t u (p .outcome) (q .outcome)
 
 pub open-agrees : OpenAgrees
 open-agrees sheet r s p q = by-case (λ o. answered (openedOf o)) openedCase opened-back r s (ap answered (same p q))
@@ -312,8 +312,11 @@ returned-agree o r s t u p q = let e = same p q in (ap (λ w. w .number) e, ap (
 pub cedar-lines-agree : CedarLinesAgree
 cedar-lines-agree block text = returned-agree (converted (toLines block text))
 
+pub cedar-judge-lines-agrees : CedarJudgeLinesAgrees
+cedar-judge-lines-agrees lines r s p q = same p q
+
 pub cedar-block-agrees : CedarBlockAgrees
-cedar-block-agrees text block = returned-agree (converted (toBlock text block))
+cedar-block-agrees text block = returned-agree (converted (writeBlock text block))
 
 pub cedar-start-agrees : CedarStartAgrees
 cedar-start-agrees sheet = returned-agree (converted (started version1 sheet))
@@ -340,6 +343,9 @@ printed-listing-agrees block out r s t u p q = put-agrees out (listingOf block) 
 
 pub printed-lines-agree : PrintedLinesAgree
 printed-lines-agree block out r s t u p q = put-agrees out (linesPrinted block) 0 r s t u (p .put) (q .put)
+
+pub printed-size-agrees : PrintedSizeAgrees
+printed-size-agrees lines out r s t u p q = put-agrees out (sizePrinted lines) 0 r s t u (p .put) (q .put)
 
 pub printed-block-agrees : PrintedBlockAgrees
 printed-block-agrees text out r s t u p q = put-agrees out (blockPrinted text) 0 r s t u (p .put) (q .put)

@@ -14,6 +14,7 @@ use Rattle.units.proofs.Packing.{taken-apart}
 use Rattle.units.proofs.Verdicts.{and-on, never-passed}
 use Rattle.words.specs.Words.{All, Below, blockFrom}
 use Rattle.words.specs.Outcomes.{Written, written, leaves}
+use Rattle.words.proofs.Sealing.{length-framed}
 use Rattle.words.proofs.Writing.{written-either}
 use Rattle.block.specs.Cases.{BlockRow}
 use Rattle.block.specs.Judging.{judged}
@@ -27,10 +28,10 @@ use Rattle.prefix.specs.Table.{table, dashes, prefixOf, answerOf}
 use Rattle.cedar.specs.Calls.{returned, converted, returnedBoth, amendedBoth}
 use Rattle.read_records.specs.Cases.{TextRow}
 use Rattle.read_records.specs.Reading.{readText}
-use Rattle.read_text.specs.Block.{wordsIn, toBlock}
+use Rattle.read_text.specs.Block.{judgeLines, writeBlock}
 use Rattle.read_records.proofs.Known.{WordsFit, text-known}
 use Rattle.read_text.proofs.Known.{answer-told}
-use Rattle.demands.specs.Demand1.{Unpacks, Judgement, JudgeAnswers, PrefixAnswers, LinesAnswers, ContentAnswers, BlockAnswers, RepackAnswers, Writes, SheetRow, OpenAnswers, StartAnswers, BothAnswer, AmendRow, AmendAnswers, UndoRow, UndoAnswers, CedarJudgeTells, CedarPrefixTells, TellsWritten, CedarLinesTell, CedarBlockTells, CedarStartTells, CedarRepackTells, TellsBoth, CedarAmendTells, CedarUndoTells}
+use Rattle.demands.specs.Demand1.{Unpacks, Judgement, JudgeAnswers, PrefixAnswers, LinesAnswers, JudgeLinesAnswers, BlockAnswers, RepackAnswers, Writes, SheetRow, OpenAnswers, StartAnswers, BothAnswer, AmendRow, AmendAnswers, UndoRow, UndoAnswers, CedarJudgeTells, CedarPrefixTells, TellsWritten, CedarLinesTell, CedarJudgeLinesTells, CedarBlockTells, CedarStartTells, CedarRepackTells, TellsBoth, CedarAmendTells, CedarUndoTells}
 use Rattle.units.specs.declared.Answer.{Answer}
 use Rattle.units.proofs.Choosing.{by-test, both-ways}
 use Rattle.words.proofs.Laws.{getD-below}
@@ -116,19 +117,19 @@ repack-answers slice out bytes =
     let t = repack-told slice out bytes in
     ((t .0, taken-apart (repack slice out .answer) (t .1)), kept 50 out (onward (blocksIn slice) (λ blocks. passed (repacked (recordsIn blocks)))))
 
-pub content-answers : ContentAnswers
-unfolding wordsIn
-content-answers text = by (readText text) (text-known text)
+pub judge-lines-answers : JudgeLinesAnswers
+unfolding judgeLines
+judge-lines-answers text = by (readText text) (text-known text)
   where
-    by : (v : Verdict (List ℕ)) → Known TextRow (WordsFit 0) v → Judgement TextRow (onward v (λ ws. passed (length ws)))
-    by (passed ws) h = taken-apart (answer 0 (length ws) 0 0) (omega (arith, h .most))
+    by : (v : Verdict (List ℕ)) → Known TextRow (WordsFit 0) v → Judgement TextRow (onward (onward v (λ ws. passed (blockFrom ws))) (λ b. passed (length b)))
+    by (passed ws) h = taken-apart (answer 0 (length (blockFrom ws)) 0 0) (omega (arith, length-framed ws, h .most))
     by (refused r) h = (h .listed, taken-apart r (h .packs))
 
 pub block-answers : BlockAnswers
-unfolding toBlock
+unfolding writeBlock
 block-answers text block =
     let t = answer-told text block in
-    ((t .listed, taken-apart (toBlock text block .answer) (t .packs)), kept 29 block (onward (readText text) (λ ws. passed (blockFrom ws))))
+    ((t .listed, taken-apart (writeBlock text block .answer) (t .packs)), kept 29 block (onward (readText text) (λ ws. passed (blockFrom ws))))
 
 -- ---- the calls on a sheet, and on a block and its sheet: rows 40 to 46
 
@@ -244,8 +245,11 @@ tells-written w r after u p = (ap (λ x. takenApart (x .number)) p ∙ u, ap (λ
 pub cedar-lines-tell : CedarLinesTell
 cedar-lines-tell block text after r bytes = tells-written (toLines block text) r after (lines-answers block text bytes .0 .1)
 
+pub cedar-judge-lines-tells : CedarJudgeLinesTells
+cedar-judge-lines-tells text r p = ap takenApart p ∙ judgement-unpacks TextRow (judgeLines text) (judge-lines-answers text)
+
 pub cedar-block-tells : CedarBlockTells
-cedar-block-tells text block after r = tells-written (toBlock text block) r after (block-answers text block .0 .1)
+cedar-block-tells text block after r = tells-written (writeBlock text block) r after (block-answers text block .0 .1)
 
 pub cedar-repack-tells : CedarRepackTells
 cedar-repack-tells blocks out after r bytes = tells-written (repack blocks out) r after (repack-answers blocks out bytes .0 .1)

@@ -15,7 +15,7 @@ use Rattle.block.proofs.Exact.{only-good, every-good, its-records, frame-of}
 use Rattle.write_lines.specs.Text.{textOf, toLines}
 use Rattle.write_lines.proofs.Outcome.{when-accepted}
 use Rattle.read_records.specs.Reading.{readText}
-use Rattle.read_text.specs.Block.{toBlock}
+use Rattle.read_text.specs.Block.{judgeLines, writeBlock}
 use Rattle.demands.specs.Demand2.{AcceptedExactly, OneWay, bytesIn, wrote, standard, LinesRead, BlockLinesBlock, TextGivesBlock, WrittenAccepted, LinesBlockLines, StandardRead, StandardStays, OneStandard}
 use Rattle.demands.proofs.Standard.{text-back}
 use Rattle.demands.proofs.Sound.{its-text}
@@ -48,9 +48,13 @@ with-room short bytes out h = simp (le-ltb (length out) (length bytes) h)
 lines-written : (b text : List ℕ) (k : ℕ) → judged b ≡ passed k → length (textOf (recordsOf b)) ≤ length text → toLines b text ≡ wrote (textOf (recordsOf b)) text
 lines-written b text k e h = when-accepted b text k e ∙ with-room 29 (textOf (recordsOf b)) text h
 
-block-written : (t out ws : List ℕ) → readText t ≡ passed ws → length (blockFrom ws) ≤ length out → toBlock t out ≡ wrote (blockFrom ws) out
-unfolding toBlock
+block-written : (t out ws : List ℕ) → readText t ≡ passed ws → length (blockFrom ws) ≤ length out → writeBlock t out ≡ wrote (blockFrom ws) out
+unfolding writeBlock
 block-written t out ws e h = rw e (with-room 29 (blockFrom ws) out h)
+
+size-judged : (t ws : List ℕ) → readText t ≡ passed ws → judgeLines t ≡ passed (length (blockFrom ws))
+unfolding judgeLines
+size-judged t ws e = rw e
 
 -- ---- the round trips
 
@@ -58,11 +62,13 @@ pub block-lines-block : BlockLinesBlock
 block-lines-block b text out bytes a room-text room-out =
     let g = only-good b (a .count) bytes (a .is) .0 in
     let rs = recordsOf b in
-    let l = lines-written b text (a .count) (a .is) room-text in (
+    let l = lines-written b text (a .count) (a .is) room-text in
+    let read = text-back rs (g .each) (g .some) (g .most) in (
       l,
-      ap (λ w. toBlock (bytesIn w) out) l
-          ∙ ap (λ s. toBlock s out) (bytes-in (textOf rs) text)
-          ∙ block-written (textOf rs) out (joined rs) (text-back rs (g .each) (g .some) (g .most)) (rw (← g .bytes) room-out)
+      ap (λ w. judgeLines (bytesIn w)) l ∙ ap judgeLines (bytes-in (textOf rs) text) ∙ size-judged (textOf rs) (joined rs) read ∙ ap (λ c. passed (length c)) (sym (g .bytes)),
+      ap (λ w. writeBlock (bytesIn w) out) l
+          ∙ ap (λ s. writeBlock s out) (bytes-in (textOf rs) text)
+          ∙ block-written (textOf rs) out (joined rs) read (rw (← g .bytes) room-out)
           ∙ ap (λ c. wrote c out) (sym (g .bytes)),
     )
 
@@ -82,7 +88,7 @@ text-gives-block t ws e =
     (rs, good, every-good (blockFrom ws) rs good)
 
 pub written-accepted : WrittenAccepted
-unfolding toBlock written
+unfolding writeBlock written
 written-accepted t out = by (readText t) refl (text-known t)
   where
     taken : (ws : List ℕ) → readText t ≡ passed ws → {w : Written} → let b = blockFrom ws in
@@ -113,12 +119,15 @@ lines-block-lines t ws out text e room-out room-text =
     let lines =
     ap (λ w. toLines (bytesIn w) text) block
     ∙ ap (λ c. toLines c text) (bytes-in b out)
-    ∙ lines-written b text (length rs) (every-good b rs (text-gives-block t ws e .1)) room-text in (
+    ∙ lines-written b text (length rs) (every-good b rs (text-gives-block t ws e .1)) room-text in
+    let again = standard-read t ws e in (
+      size-judged t ws e,
       block,
       lines,
-      ap (λ w. toBlock (bytesIn w) out) lines
-          ∙ ap (λ s. toBlock s out) (bytes-in (standard ws) text)
-          ∙ block-written (standard ws) out ws (standard-read t ws e) room-out
+      ap (λ w. judgeLines (bytesIn w)) lines ∙ ap judgeLines (bytes-in (standard ws) text) ∙ size-judged (standard ws) ws again ∙ sym (size-judged t ws e),
+      ap (λ w. writeBlock (bytesIn w) out) lines
+          ∙ ap (λ s. writeBlock s out) (bytes-in (standard ws) text)
+          ∙ block-written (standard ws) out ws again room-out
           ∙ sym block,
     )
 

@@ -16,7 +16,7 @@ use Rattle.read_columns.specs.Columns.{number}
 use Rattle.report.specs.Text.{bytesFrom, behind, lineOf}
 use Rattle.report.specs.Decimal.{decimalOf}
 use Rattle.report.specs.Refusal.{refusalLine}
-use Rattle.printed.specs.Listing.{signedOf, rowOf, rowsOf}
+use Rattle.listed.specs.Listing.{signedOf, rowOf, rowsOf}
 use Rattle.write_parts.specs.Laid.{fieldsOf, laid, ended}
 use Rattle.line_plan.specs.Plan.{part, times, plan}
 use Rattle.write_lines.specs.Lines.{linesOf}

@@ -3,6 +3,7 @@ pub mod Demand2
 pub mod Sheets
 pub mod Demand3
 pub mod WholeFiles
+pub mod LookBeforeYouWrite
 pub mod Records
 pub mod Lines
 pub mod ExclusiveOr

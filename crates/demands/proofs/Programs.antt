@@ -1,6 +1,6 @@
 -- The programs write what they print, and print what the calls give.
 use mathlib.Core.Path.{_≡_, refl, sym, ap, _∙_}
-use mathlib.Core.List.{List}
+use mathlib.Core.List.{List, [], _∷_}
 use Prim.Native.Nat.{ℕ, _≤_}
 use native.Mathlib.Omega.{arith}
 use borrow.Author.Tests.{ne-eqb}
@@ -8,6 +8,7 @@ use lib.ListN.{length, take}
 use lib.Seq.{length-sets}
 use Rattle.units.specs.declared.Answer.{Answer}
 use Rattle.units.specs.Answers.{Verdict, passed, refused, onward}
+use Rattle.units.proofs.Verdicts.{never-passed}
 use Rattle.words.specs.Words.{Below, blockFrom}
 use Rattle.words.specs.Outcomes.{written}
 use Rattle.words.proofs.Sealing.{slice-sets}
@@ -18,13 +19,15 @@ use Rattle.block_slice.specs.Blocks.{blocksIn, recordsIn}
 use Rattle.packing.specs.Packing.{repacked}
 use Rattle.write_lines.specs.Text.{textOf, toLines}
 use Rattle.read_records.specs.Reading.{readText}
-use Rattle.read_text.specs.Block.{toBlock}
+use Rattle.read_text.specs.Block.{judgeLines, writeBlock}
 use Rattle.repacking.specs.Repacking.{repack}
+use Rattle.report.specs.Text.{lineOf}
+use Rattle.report.specs.Decimal.{decimalOf}
 use Rattle.report.specs.Refusal.{orRefusal}
-use Rattle.printed.specs.Listing.{listingOf}
-use Rattle.printed.specs.Printed.{Printed, linesPrinted, blockPrinted, blocksPrinted}
+use Rattle.listed.specs.Listing.{listingOf}
+use Rattle.printed.specs.Printed.{Printed, linesPrinted, sizePrinted, blockPrinted, blocksPrinted}
 use Rattle.printed.proofs.Outcome.{lines-bound, block-bound, blocks-bound, text-row, slice-row}
-use Rattle.demands.specs.Programs.{ListingWritten, LinesWritten, BlockWritten, BlocksWritten, printedOf, LinesAsCalled, BlockAsCalled, BlocksAsCalled}
+use Rattle.demands.specs.Programs.{ListingWritten, LinesWritten, SizeWritten, BlockWritten, TestedFirst, BlocksWritten, printedOf, LinesAsCalled, BlockAsCalled, BlocksAsCalled}
 use Rattle.demands.proofs.Demand2.{bytes-in, with-room}
 
 printed-written : (out text after : List ℕ) (end : ℕ) → Printed out text after end → take end after ≡ text
@@ -37,11 +40,23 @@ listing-written block out = printed-written out (listingOf block)
 pub lines-written : LinesWritten
 lines-written block out = printed-written out (linesPrinted block)
 
+pub size-written : SizeWritten
+size-written text out = printed-written out (sizePrinted text)
+
 pub block-written : BlockWritten
 block-written text out = printed-written out (blockPrinted text)
 
 pub blocks-written : BlocksWritten
 blocks-written blocks out = printed-written out (blocksPrinted blocks)
+
+pub tested-first : TestedFirst
+unfolding judgeLines
+tested-first text = by (readText text) refl
+  where
+    by : (v : Verdict (List ℕ)) → readText text ≡ v → let size = onward (onward v (λ ws. passed (blockFrom ws))) (λ b. passed (length b)) in let block = orRefusal blockFrom v in
+        ((r : Answer) → size ≡ refused r → orRefusal (λ n. lineOf (decimalOf n ∷ [])) size ≡ block) × ((n : ℕ) → size ≡ passed n → length block ≡ n)
+    by (passed ws) e = (λ r f. absurd (never-passed (sym f)), λ n f. cc)
+    by (refused r) e = (λ r f. refl, λ n f. absurd (never-passed f))
 
 -- ---- what the calls give
 
@@ -60,7 +75,7 @@ unfolding toLines
 lines-as-called block out h room = as-called 29 (λ _. textOf (recordsOf block)) out (judged block) (omega (arith, lines-bound block h)) (judge-row block h)
 
 pub block-as-called : BlockAsCalled
-unfolding toBlock
+unfolding writeBlock
 block-as-called text out room = as-called 29 blockFrom out (readText text) (omega (arith, block-bound text)) (text-row text)
 
 pub blocks-as-called : BlocksAsCalled

@@ -13,8 +13,9 @@ use Rattle.sheet.specs.Sheets.{Entry}
 use Rattle.sheet.specs.Promises.{OpensSheet, StartsSheet}
 use Rattle.amending.specs.Promises.{Amends, Undoes}
 use Rattle.repacking.specs.Promises.{Repacks}
-use Rattle.cedar.specs.Promises.{CedarJudges, CedarFindsPrefix, CedarWritesLines, CedarWritesBlock, CedarStartsSheet, CedarAmends, CedarUndoes, CedarRepacks}
-use Rattle.printed.specs.Promises.{PrintsListing, PrintsLines, PrintsBlock, PrintsBlocks}
+use Rattle.cedar.specs.Promises.{CedarJudges, CedarFindsPrefix, CedarWritesLines, CedarJudgesLines, CedarWritesBlock, CedarStartsSheet, CedarAmends, CedarUndoes, CedarRepacks}
+use Rattle.listed.specs.Promises.{PrintsListing}
+use Rattle.printed.specs.Promises.{PrintsLines, PrintsSize, PrintsBlock, PrintsBlocks}
 
 -- a promise on an answer fixes it
 abbrev pub Fixes : {R : Type 0} → (R → Type 0) → Type 0
@@ -60,11 +61,11 @@ PrefixAgrees = (instrument : ℕ) → Fixes (FindsPrefix instrument)
 abbrev pub LinesAgree : Type 0
 LinesAgree = (block text : List ℕ) → FixesOne (WritesLines block text)
 
--- `read_text::judge`
-abbrev pub ContentAgrees : Type 0
-ContentAgrees = (text : List ℕ) → Fixes (JudgesLines text)
+-- `read_text::judge_lines`
+abbrev pub JudgeLinesAgrees : Type 0
+JudgeLinesAgrees = (text : List ℕ) → Fixes (JudgesLines text)
 
--- `read_text::to_block`
+-- `read_text::write_block`
 abbrev pub BlockAgrees : Type 0
 BlockAgrees = (text block : List ℕ) → FixesOne (WritesBlock text block)
 
@@ -102,7 +103,11 @@ CedarPrefixAgrees = (instrument : ℕ) → Fixes (CedarFindsPrefix instrument)
 abbrev pub CedarLinesAgree : Type 0
 CedarLinesAgree = (block text : List ℕ) → FixesOne (CedarWritesLines block text)
 
--- `cedar_to_block`
+-- `cedar_judge_lines`
+abbrev pub CedarJudgeLinesAgrees : Type 0
+CedarJudgeLinesAgrees = (text : List ℕ) → Fixes (CedarJudgesLines text)
+
+-- `cedar_write_block`
 abbrev pub CedarBlockAgrees : Type 0
 CedarBlockAgrees = (text block : List ℕ) → FixesOne (CedarWritesBlock text block)
 
@@ -131,6 +136,10 @@ PrintedListingAgrees = (block out : List ℕ) → FixesOne (PrintsListing block 
 -- `printed::print_lines`
 abbrev pub PrintedLinesAgree : Type 0
 PrintedLinesAgree = (block out : List ℕ) → FixesOne (PrintsLines block out)
+
+-- `printed::print_size`
+abbrev pub PrintedSizeAgrees : Type 0
+PrintedSizeAgrees = (text out : List ℕ) → FixesOne (PrintsSize text out)
 
 -- `printed::print_block`
 abbrev pub PrintedBlockAgrees : Type 0

@@ -15,14 +15,14 @@ use Rattle.block.specs.Judging.{judged}
 use Rattle.write_lines.specs.Cases.{LinesRow}
 use Rattle.write_lines.specs.Text.{toLines}
 use Rattle.read_records.specs.Cases.{TextRow}
-use Rattle.read_text.specs.Cases.{ToBlockRow}
-use Rattle.read_text.specs.Block.{wordsIn, toBlock}
+use Rattle.read_text.specs.Cases.{WriteRow}
+use Rattle.read_text.specs.Block.{judgeLines, writeBlock}
 use Rattle.sheet.specs.Sheets.{Entry, version1, opened, started}
 use Rattle.amending.specs.Amending.{Outcome, amend, undo}
 use Rattle.repacking.specs.Cases.{RepackRow}
 use Rattle.repacking.specs.Repacking.{repack}
 use Rattle.prefix.specs.Table.{prefixOf, answerOf}
-use Rattle.cedar.specs.Promises.{CedarJudges, CedarFindsPrefix, CedarWritesLines, CedarWritesBlock, CedarStartsSheet, CedarAmends, CedarUndoes, CedarRepacks}
+use Rattle.cedar.specs.Promises.{CedarJudges, CedarFindsPrefix, CedarWritesLines, CedarJudgesLines, CedarWritesBlock, CedarStartsSheet, CedarAmends, CedarUndoes, CedarRepacks}
 
 -- ---- the numbers of an answer
 
@@ -53,13 +53,13 @@ JudgeAnswers = (block : List ℕ) → Below 256 block → Judgement BlockRow (ju
 abbrev pub LinesAnswers : Type 0
 LinesAnswers = (block text : List ℕ) → Below 256 block → Writes LinesRow text (toLines block text)
 
--- "Order for text: 30, then line by line ... At the end 21"
-abbrev pub ContentAnswers : Type 0
-ContentAnswers = (text : List ℕ) → Judgement TextRow (wordsIn text)
+-- "Order for text: 30, then line by line ... At the end 21"; document 02, request 2: "Judging gives every text refusal but 29"
+abbrev pub JudgeLinesAnswers : Type 0
+JudgeLinesAnswers = (text : List ℕ) → Judgement TextRow (judgeLines text)
 
--- "then 29"
+-- "writing gives all of them in 01's order": "then 29"
 abbrev pub BlockAnswers : Type 0
-BlockAnswers = (text block : List ℕ) → Writes ToBlockRow block (toBlock text block)
+BlockAnswers = (text block : List ℕ) → Writes WriteRow block (writeBlock text block)
 
 -- document 02, request 1: "52 ... first of all; then block by block 51 ... before the block's own refusals"; "50 ... last of all"
 abbrev pub RepackAnswers : Type 0
@@ -122,9 +122,13 @@ TellsWritten w r after = Tells r (w .answer) × (after ≡ w .out)
 abbrev pub CedarLinesTell : Type 0
 CedarLinesTell = (block text after : List ℕ) (r : ℕ) → Below 256 block → CedarWritesLines block text r after → TellsWritten (toLines block text) r after
 
--- `cedar_to_block`
+-- `cedar_judge_lines`
+abbrev pub CedarJudgeLinesTells : Type 0
+CedarJudgeLinesTells = (text : List ℕ) (r : ℕ) → CedarJudgesLines text r → Tells r (answered (judgeLines text))
+
+-- `cedar_write_block`
 abbrev pub CedarBlockTells : Type 0
-CedarBlockTells = (text block after : List ℕ) (r : ℕ) → CedarWritesBlock text block r after → TellsWritten (toBlock text block) r after
+CedarBlockTells = (text block after : List ℕ) (r : ℕ) → CedarWritesBlock text block r after → TellsWritten (writeBlock text block) r after
 
 -- `cedar_sheet_start`
 abbrev pub CedarStartTells : Type 0

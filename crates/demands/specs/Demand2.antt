@@ -14,7 +14,7 @@ use Rattle.block.specs.Records.{recordsOf}
 use Rattle.block.specs.Rules.{IsBlock}
 use Rattle.write_lines.specs.Text.{textOf, toLines}
 use Rattle.read_records.specs.Reading.{readText}
-use Rattle.read_text.specs.Block.{toBlock}
+use Rattle.read_text.specs.Block.{judgeLines, writeBlock}
 
 -- what is accepted is a good block, and every good block is accepted, with the number of its records
 abbrev pub AcceptedExactly : Type 0
@@ -45,11 +45,12 @@ standard ws = textOf (recordsOf (blockFrom ws))
 abbrev pub LinesRead : Type 0
 LinesRead = (rs : List (List ℕ)) → All RecordOk rs → 1 ≤ length rs → length (joined rs) ≤ mostRecordWords → readText (textOf rs) ≡ passed (joined rs)
 
--- block to lines to block is the identity
+-- block to lines to block is the identity: judging the lines gives the block's size, and writing gives the block
 abbrev pub BlockLinesBlock : Type 0
 BlockLinesBlock =
     (b text out : List ℕ) → Below 256 b → Accepted b → length (textOf (recordsOf b)) ≤ length text → length b ≤ length out →
-    (toLines b text ≡ wrote (textOf (recordsOf b)) text) × (toBlock (bytesIn (toLines b text)) out ≡ wrote b out)
+    let lines = toLines b text in
+    (lines ≡ wrote (textOf (recordsOf b)) text) × (judgeLines (bytesIn lines) ≡ passed (length b)) × (writeBlock (bytesIn lines) out ≡ wrote b out)
 
 -- what an accepted text becomes is a good block, and the judge accepts it, with the number of its records
 abbrev pub TextGivesBlock : Type 0
@@ -57,17 +58,21 @@ TextGivesBlock =
     (t ws : List ℕ) → readText t ≡ passed ws →
     (rs : List (List ℕ)) × IsBlock (blockFrom ws) rs × (judged (blockFrom ws) ≡ passed (length rs))
 
--- so the bytes that lines to block says it has written are there, and are a block that the judge accepts
+-- so the bytes that writing says it has written are there, and are a block that the judge accepts
 abbrev pub WrittenAccepted : Type 0
-WrittenAccepted = (t out : List ℕ) → let w = toBlock t out in w .answer .n ≡ 0 → (length (bytesIn w) ≡ w .answer .a) × Accepted (bytesIn w)
+WrittenAccepted = (t out : List ℕ) → let w = writeBlock t out in w .answer .n ≡ 0 → (length (bytesIn w) ≡ w .answer .a) × Accepted (bytesIn w)
 
--- accepted lines to block and back become the standard lines, and these give the same block
+-- accepted lines to block and back become the standard lines; the size of both is judged as that of the block, and both give this block
 abbrev pub LinesBlockLines : Type 0
 LinesBlockLines =
     (t ws out text : List ℕ) → readText t ≡ passed ws → length (blockFrom ws) ≤ length out → length (standard ws) ≤ length text →
-    let block = toBlock t out in
+    let block = writeBlock t out in
     let lines = toLines (bytesIn block) text in
-    (block ≡ wrote (blockFrom ws) out) × (lines ≡ wrote (standard ws) text) × (toBlock (bytesIn lines) out ≡ block)
+    (judgeLines t ≡ passed (length (blockFrom ws)))
+    × (block ≡ wrote (blockFrom ws) out)
+    × (lines ≡ wrote (standard ws) text)
+    × (judgeLines (bytesIn lines) ≡ judgeLines t)
+    × (writeBlock (bytesIn lines) out ≡ block)
 
 -- the standard lines are accepted, and read as the same words
 abbrev pub StandardRead : Type 0

@@ -21,7 +21,7 @@ use Rattle.sheet.specs.Sheets.{version1, sheetOf}
 use Rattle.block_value.specs.Places.{recordIn}
 use Rattle.repacking.specs.Repacking.{repack}
 use Rattle.cedar.specs.Calls.{judgeAnswer}
-use Rattle.printed.specs.Listing.{listingOf}
+use Rattle.listed.specs.Listing.{listingOf}
 use Rattle.demands.specs.Demand3.{Call, amends, undoes, doneAll, leftBy, fresh}
 
 -- "Block K", with NROW, word 22 of its record and the checksum left open; -32767 is the word 32769

@@ -9,4 +9,5 @@ pub mod Agree
 pub mod Sheets
 pub mod Demand3
 pub mod WholeFiles
+pub mod LookBeforeYouWrite
 pub mod Programs

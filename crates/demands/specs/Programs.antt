@@ -5,15 +5,18 @@ use Prim.Native.Nat.{ℕ, _≤_}
 use lib.Dec.{eqb}
 use lib.ListN.{length, take}
 use Rattle.units.specs.Choice.{if_then_else_}
+use Rattle.units.specs.declared.Answer.{Answer}
+use Rattle.units.specs.Answers.{passed, refused}
 use Rattle.words.specs.Words.{Below}
 use Rattle.words.specs.Outcomes.{Written}
 use Rattle.write_lines.specs.Text.{toLines}
-use Rattle.read_text.specs.Block.{toBlock}
+use Rattle.read_text.specs.Block.{judgeLines, writeBlock}
 use Rattle.repacking.specs.Repacking.{repack}
 use Rattle.report.specs.Refusal.{refusalLine}
-use Rattle.printed.specs.Listing.{listingOf}
-use Rattle.printed.specs.Printed.{linesPrinted, blockPrinted, blocksPrinted}
-use Rattle.printed.specs.Promises.{PrintsListing, PrintsLines, PrintsBlock, PrintsBlocks}
+use Rattle.listed.specs.Listing.{listingOf}
+use Rattle.printed.specs.Printed.{linesPrinted, sizePrinted, blockPrinted, blocksPrinted}
+use Rattle.listed.specs.Promises.{PrintsListing}
+use Rattle.printed.specs.Promises.{PrintsLines, PrintsSize, PrintsBlock, PrintsBlocks}
 use Rattle.demands.specs.Demand2.{bytesIn}
 
 -- `listing`: "It prints for each record ... For a refusal it prints only one line"
@@ -24,6 +27,10 @@ ListingWritten = (block out after : List ℕ) (end : ℕ) → PrintsListing bloc
 abbrev pub LinesWritten : Type 0
 LinesWritten = (block out after : List ℕ) (end : ℕ) → PrintsLines block out end after → take end after ≡ linesPrinted block
 
+-- `check_lines`
+abbrev pub SizeWritten : Type 0
+SizeWritten = (text out after : List ℕ) (end : ℕ) → PrintsSize text out end after → take end after ≡ sizePrinted text
+
 -- `lines_to_block`
 abbrev pub BlockWritten : Type 0
 BlockWritten = (text out after : List ℕ) (end : ℕ) → PrintsBlock text out end after → take end after ≡ blockPrinted text
@@ -31,6 +38,12 @@ BlockWritten = (text out after : List ℕ) (end : ℕ) → PrintsBlock text out 
 -- `repack`
 abbrev pub BlocksWritten : Type 0
 BlocksWritten = (slice out after : List ℕ) (end : ℕ) → PrintsBlocks slice out end after → take end after ≡ blocksPrinted slice
+
+-- "test lines before it finds a buffer": where they are refused, `lines_to_block` prints what `check_lines` does; where not, that is the size of the block
+abbrev pub TestedFirst : Type 0
+TestedFirst =
+    (text : List ℕ) →
+    ((r : Answer) → judgeLines text ≡ refused r → sizePrinted text ≡ blockPrinted text) × ((size : ℕ) → judgeLines text ≡ passed size → length (blockPrinted text) ≡ size)
 
 -- ---- and that is what the call of the same name gives, into an output that has always room
 
@@ -42,9 +55,9 @@ printedOf w = if eqb (w .answer .n) 0 then bytesIn w else refusalLine (w .answer
 abbrev pub LinesAsCalled : Type 0
 LinesAsCalled = (block out : List ℕ) → Below 256 block → 55971 ≤ length out → linesPrinted block ≡ printedOf (toLines block out)
 
--- `lines_to_block` and lines to block
+-- `lines_to_block` and writing a block
 abbrev pub BlockAsCalled : Type 0
-BlockAsCalled = (text out : List ℕ) → 16000 ≤ length out → blockPrinted text ≡ printedOf (toBlock text out)
+BlockAsCalled = (text out : List ℕ) → 16000 ≤ length out → blockPrinted text ≡ printedOf (writeBlock text out)
 
 -- `repack` and repacking
 abbrev pub BlocksAsCalled : Type 0

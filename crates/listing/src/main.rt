@@ -3,8 +3,8 @@ use libc::STDIN_FILENO;
 use libc::STDOUT_FILENO;
 
 fn put_listing(block: &[u8]) {
-    let mut listing = [0u8; printed::LISTING_BYTES];
-    let end = printed::print_listing(block, &mut listing).0;
+    let mut listing = [0u8; listed::LISTING_BYTES];
+    let end = listed::print_listing(block, &mut listing).0;
     io::write_all(STDOUT_FILENO, &listing[..end]);
 }
 

@@ -1,9 +1,9 @@
 -- What is printed, by what is found of the input, and that it fits.
 use mathlib.Core.Path.{_≡_, refl, sym, ap, _∙_}
-use mathlib.Core.List.{List}
+use mathlib.Core.List.{List, [], _∷_}
 use Prim.Native.Nat.{ℕ, _+_, _≤_}
 use native.Mathlib.Omega.{arith}
-use lib.ListN.{length}
+use lib.ListN.{length, length-append}
 use lib.Seq.{sets, length-sets, length-take-le}
 use Rattle.units.specs.declared.Answer.{Answer}
 use Rattle.units.specs.Answers.{answer, Verdict, passed, refused, onward}
@@ -23,14 +23,18 @@ use Rattle.write_lines.specs.Text.{textOf}
 use Rattle.write_lines.proofs.Sizes.{text-bound}
 use Rattle.read_records.specs.Reading.{readText}
 use Rattle.read_records.proofs.Known.{text-known, words-room}
+use Rattle.read_text.specs.Block.{judgeLines}
+use Rattle.report.specs.Text.{behind, lineOf}
+use Rattle.report.specs.Decimal.{decimalOf}
 use Rattle.report.specs.Refusal.{refusalLine, orRefusal}
+use Rattle.report.proofs.Digits.{most-digits}
 use Rattle.report.proofs.Lines.{printed-most}
 use Rattle.block_slice.specs.Blocks.{blocksIn, recordsIn}
 use Rattle.packing.specs.Packing.{repacked}
 use Rattle.block_slice.proofs.Slices.{only-slices}
 use Rattle.block_slice.proofs.Known.{slice-known, row-not-0}
 use Rattle.repacking.proofs.Known.{repacked-bound}
-use Rattle.printed.specs.Printed.{Printed, EndOrRefusal, linesPrinted, blockPrinted, blocksPrinted}
+use Rattle.printed.specs.Printed.{Printed, EndOrRefusal, linesPrinted, sizePrinted, blockPrinted, blocksPrinted}
 
 -- what is to be printed is this text: it has room, and is printed once it is put in
 pub record Prints (out whole text : List ℕ) : Type 0 where
@@ -48,10 +52,10 @@ prints {out} {whole} {text} h is =
 
 -- what is made of what passed, or the line of a refusal
 module _ {A : Type 0} (f : A → List ℕ) {v : Verdict A} {out : List ℕ} (h : Room out 0 (orRefusal f v)) where
-  prints-passed : {x : A} → v ≡ passed x → Prints out (orRefusal f v) (f x)
+  pub prints-passed : {x : A} → v ≡ passed x → Prints out (orRefusal f v) (f x)
   prints-passed e = prints h (ap (orRefusal f) e)
 
-  prints-refused : {r s : Answer} → v ≡ refused r → s ≡ r → Prints out (orRefusal f v) (refusalLine s)
+  pub prints-refused : {r s : Answer} → v ≡ refused r → s ≡ r → Prints out (orRefusal f v) (refusalLine s)
   prints-refused e is = prints h (ap (orRefusal f) e ∙ ap refusalLine (sym is))
 
 -- of a block: a text for all its records, or the line of its refusal
@@ -64,6 +68,10 @@ module _ (text b : List ℕ) {out : List ℕ} {j : Judged} (h : Room out 0 (orRe
 
 pub lines-bound : (b : List ℕ) → Below 256 b → length (linesPrinted b) ≤ 55971
 lines-bound b h = printed-most (λ _. textOf (recordsOf b)) 55971 (omega arith) (judged b) (λ k e. text-bound b h (record { count = k; is = e }))
+
+pub size-bound : (t : List ℕ) → length (sizePrinted t) ≤ 52
+unfolding lineOf behind
+size-bound t = printed-most (λ size. lineOf (decimalOf size ∷ [])) 52 (omega arith) (judgeLines t) (λ size _. omega (arith, length-append (decimalOf size) (10 ∷ []), most-digits size))
 
 pub block-bound : (t : List ℕ) → length (blockPrinted t) ≤ 16000
 block-bound t = printed-most blockFrom 16000 (omega arith) (readText t) (λ ws e. omega (arith, length-framed ws, words-room t ws e))

@@ -1,111 +1,28 @@
-// What the programs print: the listing of a block, its lines, or the block of a text; or the line of a refusal.
+// What the other programs print: the lines of a block, the size of a text's block or the block itself, blocks packed again; or the line of a refusal.
 use block::Judged;
 use units::Answer;
 use units::Bytes;
-use units::Words;
 ghost use mathlib.Core.List.{[], _∷_};
-ghost use Prim.Native.Nat.{_<_, _≤_};
+ghost use Prim.Native.Nat.{_≤_};
 ghost use lib.ListN.{length};
-ghost use Rattle.words.specs.Words.{wordsOf, mostWords};
 ghost use Rattle.words.specs.Writing.{Room, Put};
-ghost use Rattle.block.specs.Rules.{BlockRecord};
-ghost use Rattle.block.specs.Judging.{Accepted};
-ghost use Rattle.block.specs.Records.{recordsOf};
-ghost use Rattle.prefix.specs.Table.{prefixOf};
-ghost use Rattle.report.specs.Text.{behind};
+ghost use Rattle.report.specs.Text.{lineOf};
+ghost use Rattle.report.specs.Decimal.{decimalOf};
 ghost use Rattle.report.specs.Refusal.{longestRefusal};
 ghost use Rattle.printed.specs.Printed.{EndOrRefusal};
-ghost use Rattle.printed.specs.Listing.{signedOf, lettersOf, frontOf, rowOf, rowsOf};
-ghost use Rattle.printed.specs.Promises.{PrintsListing, PrintsLines, PrintsBlock, PrintsBlocks};
+ghost use Rattle.printed.specs.Promises.{PrintsLines, PrintsSize, PrintsBlock, PrintsBlocks};
 
-// Bytes that suffice for any listing.
-pub const LISTING_BYTES: usize = 32768;
-
-// For the lines of any block.
+// Bytes that suffice for the lines of any block.
 pub const TEXT_BYTES: usize = 55971;
+
+// For the size of any text's block.
+pub const SIZE_BYTES: usize = 52;
 
 // For any block.
 pub const BLOCK_BYTES: usize = 16000;
 
 // For the blocks of any slice, packed again: they are never longer than it.
 pub const SLICE_BYTES: usize = 64000;
-
-// Puts the number that a word stands for in two's complement.
-fn write_signed(w: u16, out: &mut [u8], at: Bytes) -> Bytes
-    requires { ⌜ Room (now out) (at .0) (signedOf w) ⌝ }
-    ensures { λ r. ⌜ Put (now (out .entry)) (at .0) (signedOf w) (now (out .exit)) (r .0) ⌝ }
-{
-    let value = w as u32;
-    if value < 32768 {
-        return report::write_number(value, out, at);
-    }
-    let to = words::write_bytes(b"-", out, at);
-    report::write_number(65536 - value, out, to)
-}
-
-// Puts the end of a record's line: the instrument and its prefix.
-fn write_instrument(w: u16, out: &mut [u8], at: Bytes) -> Bytes
-    requires { ⌜ Room (now out) (at .0) (behind (signedOf w ∷ (lettersOf (prefixOf w) ∷ []))) ⌝ }
-    ensures { λ r. ⌜ Put (now (out .entry)) (at .0) (behind (signedOf w ∷ (lettersOf (prefixOf w) ∷ []))) (now (out .exit)) (r .0) ⌝ }
-{
-    let letters = prefix::prefix_of(w);
-    let to = words::write_bytes(b" ", out, at);
-    let to = write_signed(w, out, to);
-    words::write_bytes(&[b' ', letters.0, letters.1, letters.2, b'\n'], out, to)
-}
-
-// Puts the line of a good record up to its count of lines.
-fn write_front(number: u32, before: Words, whole: &[u8], out: &mut [u8], at: Bytes) -> Bytes
-    requires { ⌜ (before .0 < mostWords) × BlockRecord (wordsOf (now whole)) × Room (now out) (at .0) (frontOf number (before .0) (wordsOf (now whole))) ⌝ }
-    ensures { λ r. ⌜ Put (now (out .entry)) (at .0) (frontOf number (before .0) (wordsOf (now (whole .entry)))) (now (out .exit)) (r .0) ⌝ }
-{
-    let position = (before.0 + 1) as u32;
-    let kind = words::word_at(whole, Words(1)) as u32;
-    let count = words::count(whole).0 as u32;
-    let lines = record::line_count(whole).0 as u32;
-    let to = report::write_number(number, out, at);
-    report::write_spaced(&[position, kind, count, lines], out, to)
-}
-
-// Puts the line of a good record.
-fn write_row(number: u32, before: Words, whole: &[u8], out: &mut [u8], at: Bytes) -> Bytes
-    requires { ⌜ (before .0 < mostWords) × BlockRecord (wordsOf (now whole)) × Room (now out) (at .0) (rowOf number (before .0) (wordsOf (now whole))) ⌝ }
-    ensures { λ r. ⌜ Put (now (out .entry)) (at .0) (rowOf number (before .0) (wordsOf (now (whole .entry)))) (now (out .exit)) (r .0) ⌝ }
-{
-    let instrument = words::word_at(whole, Words(2));
-    let to = write_front(number, before, whole, out, at);
-    write_instrument(instrument, out, to)
-}
-
-// Puts the lines of an accepted block's records.
-fn write_listing(block: &[u8], out: &mut [u8]) -> Bytes
-    requires { ⌜ Accepted (now block) × Room (now out) 0 (rowsOf 1 1 (recordsOf (now block))) ⌝ }
-    ensures { λ r. ⌜ Put (now (out .entry)) 0 (rowsOf 1 1 (recordsOf (now (block .entry)))) (now (out .exit)) (r .0) ⌝ }
-{
-    let mut at = 1;
-    let mut number: u32 = 1;
-    let mut to = Bytes(0);
-    loop {
-        let whole = block_steps::record_at(block, Words(at));
-        let n = words::count(whole).0;
-        if n == 0 {
-            return to;
-        }
-        to = write_row(number, Words(at), whole, out, to);
-        at += n;
-        number += 1;
-    }
-}
-
-// Puts the listing of a block, or the line of its refusal.
-pub fn print_listing(block: &[u8], out: &mut [u8; LISTING_BYTES]) -> Bytes
-    ensures { λ r. ⌜ PrintsListing (now (block .entry)) (now (out .entry)) (r .0) (now (out .exit)) ⌝ }
-{
-    match block::judge(block) {
-        Judged::Records(_) => write_listing(block, out),
-        Judged::Refused(r) => report::write_refusal(block::refusal_numbers(r), out, Bytes(0)),
-    }
-}
 
 // Writes the lines of a block, or the line of its refusal.
 pub fn print_lines(block: &[u8], out: &mut [u8; TEXT_BYTES]) -> Bytes
@@ -114,6 +31,29 @@ pub fn print_lines(block: &[u8], out: &mut [u8; TEXT_BYTES]) -> Bytes
     match block::judge(block) {
         Judged::Records(_) => write_lines::write_records(block, out),
         Judged::Refused(r) => report::write_refusal(block::refusal_numbers(r), out, Bytes(0)),
+    }
+}
+
+// Puts a number as a line.
+fn write_line(n: u32, out: &mut [u8]) -> Bytes
+    requires { ⌜ Room (now out) 0 (lineOf (decimalOf n ∷ [])) ⌝ }
+    ensures { λ r. ⌜ Put (now (out .entry)) 0 (lineOf (decimalOf n ∷ [])) (now (out .exit)) (r .0) ⌝ }
+{
+    let to = report::write_number(n, out, Bytes(0));
+    words::write_bytes(b"\n", out, to)
+}
+
+// Puts the size of a text's block, or the line of the text's refusal.
+pub fn print_size(text: &[u8], out: &mut [u8; SIZE_BYTES]) -> Bytes
+    ensures { λ r. ⌜ PrintsSize (now (text .entry)) (now (out .entry)) (r .0) (now (out .exit)) ⌝ }
+{
+    match read_text::judge_lines(text) {
+        read_text::Judged::Size(size) => write_line(size.0 as u32, out),
+        read_text::Judged::Flawed(f) => report::write_refusal(
+            read_columns::numbers(f),
+            out,
+            Bytes(0),
+        ),
     }
 }
 
@@ -133,7 +73,7 @@ fn end_or_refusal(told: Answer, out: &mut [u8]) -> Bytes
 pub fn print_block(text: &[u8], out: &mut [u8; BLOCK_BYTES]) -> Bytes
     ensures { λ r. ⌜ PrintsBlock (now (text .entry)) (now (out .entry)) (r .0) (now (out .exit)) ⌝ }
 {
-    let told = read_text::numbers(read_text::to_block(text, out));
+    let told = read_text::built_numbers(read_text::write_block(text, out));
     end_or_refusal(told, out)
 }
 

@@ -1,4 +1,4 @@
--- The numbers of every answer of lines to block: listed, and with room in the packing.
+-- The numbers of every answer of both calls: listed, and with room in the packing.
 use mathlib.Core.Path.{_≡_, ap}
 use mathlib.Core.Logic.{_⊎_, inl, inr}
 use mathlib.Core.List.{List}
@@ -12,25 +12,25 @@ use Rattle.words.specs.Words.{blockFrom}
 use Rattle.words.specs.Outcomes.{written, leaves}
 use Rattle.words.proofs.Sealing.{length-framed}
 use Rattle.words.proofs.Writing.{written-told}
-use Rattle.read_records.specs.declared.Content.{Content}
 use Rattle.read_records.specs.Cases.{TextRow}
 use Rattle.read_records.specs.Reading.{readText}
 use Rattle.read_records.proofs.Known.{WordsFit, text-known}
+use Rattle.read_text.specs.declared.Judged.{Judged}
 use Rattle.read_text.specs.declared.Built.{Built}
-use Rattle.read_text.specs.Cases.{ToBlockRow, contentOf, builtOf}
-use Rattle.read_text.specs.Block.{wordsIn, toBlock}
+use Rattle.read_text.specs.Cases.{WriteRow, judgedOf, builtOf}
+use Rattle.read_text.specs.Block.{judgeLines, writeBlock}
 use Rattle.read_text.specs.Promises.{JudgesLines, WritesBlock}
 
 -- "Success is n = 0"; else one of the rows 20 to 30
 pub record Answered (r : Answer) : Type 0 where
-  pub listed : (r .n ≡ 0) ⊎ ToBlockRow (r .n)
+  pub listed : (r .n ≡ 0) ⊎ WriteRow (r .n)
   pub packs : Packs r
 
-pub answer-told : (t out : List ℕ) → Answered (toBlock t out .answer)
-unfolding toBlock written
+pub answer-told : (t out : List ℕ) → Answered (writeBlock t out .answer)
+unfolding writeBlock written
 answer-told t out = by (readText t) (text-known t)
   where
-    listed : {n : ℕ} → (n ≡ 0) ⊎ (n ≡ 29) → (n ≡ 0) ⊎ ToBlockRow n
+    listed : {n : ℕ} → (n ≡ 0) ⊎ (n ≡ 29) → (n ≡ 0) ⊎ WriteRow n
     listed (inl e) = inl e
     listed (inr e) = inr (omega arith)
 
@@ -40,17 +40,17 @@ answer-told t out = by (readText t) (text-known t)
         let w = written-told 29 out (blockFrom ws) (omega arith) (omega (arith, length-framed ws, h .most)) in
         record { listed = listed (w .0); packs = w .1 }
 
-content-packs : (t : List ℕ) → Packs (answered (wordsIn t))
-unfolding wordsIn
-content-packs t = by (readText t) (text-known t)
+judged-packs : (t : List ℕ) → Packs (answered (judgeLines t))
+unfolding judgeLines
+judged-packs t = by (readText t) (text-known t)
   where
-    by : (v : Verdict (List ℕ)) → Known TextRow (WordsFit 0) v → Packs (answered (onward v (λ ws. passed (length ws))))
+    by : (v : Verdict (List ℕ)) → Known TextRow (WordsFit 0) v → Packs (answered (onward (onward v (λ ws. passed (blockFrom ws))) (λ b. passed (length b))))
     by (refused r) h = h .packs
-    by (passed ws) h = omega (arith, h .most)
+    by (passed ws) h = omega (arith, length-framed ws, h .most)
 
 -- so outcomes that are the definitions' keep the promises
-pub lines-promised : (t : List ℕ) {r : Content} → contentOf r ≡ wordsIn t → JudgesLines t r
-lines-promised t e = record { outcome = e; packs = rw e (content-packs t) }
+pub lines-promised : (t : List ℕ) {r : Judged} → judgedOf r ≡ judgeLines t → JudgesLines t r
+lines-promised t e = record { outcome = e; packs = rw e (judged-packs t) }
 
-pub block-promised : (t block : List ℕ) {r : Built} {after : List ℕ} → leaves (builtOf r) after ≡ toBlock t block → WritesBlock t block r after
+pub block-promised : (t block : List ℕ) {r : Built} {after : List ℕ} → leaves (builtOf r) after ≡ writeBlock t block → WritesBlock t block r after
 block-promised t block e = record { outcome = e; packs = rw (ap (λ w. w .answer) e) (answer-told t block .packs) }

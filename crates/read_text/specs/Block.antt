@@ -1,4 +1,4 @@
--- Document 01, "What is built": lines to block.
+-- Document 02, request 2: lines to block, split: "one call judges the text and gives the block's size in bytes, a second writes".
 use Prim.Native.Nat.{ℕ}
 use mathlib.Core.List.{List}
 use lib.ListN.{length}
@@ -7,10 +7,14 @@ use Rattle.words.specs.Words.{blockFrom}
 use Rattle.words.specs.Outcomes.{Written, written}
 use Rattle.read_records.specs.Reading.{readText}
 
--- how many record words the text has: judging alone
-unfoldable pub wordsIn : List ℕ → Verdict ℕ
-wordsIn t = onward (readText t) (λ ws. passed (length ws))
+-- the block of a text: its record words, length word and checksum around them, as bytes
+abbrev pub blockIn : List ℕ → Verdict (List ℕ)
+blockIn t = onward (readText t) (λ ws. passed (blockFrom ws))
 
--- "At the end 21, then 29": the record words of the text, length word and checksum around them, as bytes
-unfoldable pub toBlock : List ℕ → List ℕ → Written
-toBlock t out = written 29 out (onward (readText t) (λ ws. passed (blockFrom ws)))
+-- "one call judges the text and gives the block's size in bytes"
+unfoldable pub judgeLines : List ℕ → Verdict ℕ
+judgeLines t = onward (blockIn t) (λ b. passed (length b))
+
+-- "The second judges again", and at its end is document 01's "21, then 29"
+unfoldable pub writeBlock : List ℕ → List ℕ → Written
+writeBlock t out = written 29 out (blockIn t)

@@ -1,20 +1,20 @@
--- What judging lines, and lines to block, promise.
+-- What judging lines, and writing their block, promise.
 use mathlib.Core.Path.{_≡_}
 use mathlib.Core.List.{List}
 use Prim.Native.Nat.{ℕ}
 use Rattle.units.specs.Answers.{answered, Packs}
 use Rattle.words.specs.Outcomes.{leaves}
-use Rattle.read_records.specs.declared.Content.{Content}
+use Rattle.read_text.specs.declared.Judged.{Judged}
 use Rattle.read_text.specs.declared.Built.{Built}
-use Rattle.read_text.specs.Cases.{contentOf, builtOf}
-use Rattle.read_text.specs.Block.{wordsIn, toBlock}
+use Rattle.read_text.specs.Cases.{judgedOf, builtOf}
+use Rattle.read_text.specs.Block.{judgeLines, writeBlock}
 
--- `judge`: how many record words these lines have, or their refusal; the answer's numbers can be packed
-pub record JudgesLines (text : List ℕ) (r : Content) : Type 0 where
-  pub outcome : contentOf r ≡ wordsIn text
-  pub packs : Packs (answered (contentOf r))
+-- `judge_lines`: how many bytes the block of these lines has, or their refusal; the answer's numbers can be packed
+pub record JudgesLines (text : List ℕ) (r : Judged) : Type 0 where
+  pub outcome : judgedOf r ≡ judgeLines text
+  pub packs : Packs (answered (judgedOf r))
 
--- `to_block`: "lines to block" of this text into this block, and the block afterwards; the answer's numbers can be packed
+-- `write_block`: the block of these lines into this one, and that afterwards; the answer's numbers can be packed
 pub record WritesBlock (text block : List ℕ) (r : Built) (after : List ℕ) : Type 0 where
-  pub outcome : leaves (builtOf r) after ≡ toBlock text block
+  pub outcome : leaves (builtOf r) after ≡ writeBlock text block
   pub packs : Packs (builtOf r)

@@ -27,7 +27,7 @@ use Rattle.read_columns.specs.Columns.{rightTo, plainLine, blankAfter, number, 
 use Rattle.read_first_line.specs.FirstLine.{catalogueFields, headerFields, countsIn, countFields, prologueFields, dataFields, kindFields, firstFields, cardsRoom, dataRoom, firstLine}
 use Rattle.read_line.specs.Lines.{laterFields, inState, readLine, atEnd, readLines}
 use Rattle.read_records.specs.Reading.{readText}
-use Rattle.read_text.specs.Block.{wordsIn, toBlock}
+use Rattle.read_text.specs.Block.{judgeLines, writeBlock}
 use Rattle.sheet.specs.Sheets.{sheetOf, sheetWith, entriesOf, entries, opened, started, broken, allZero}
 use Rattle.block_value.specs.Places.{noRecord, stands}
 use Rattle.amending.specs.Amending.{amendable, undoable, onBoth}
@@ -47,7 +47,7 @@ slices = (refl, refl)
 
 -- both tables: one equation for each call
 tables : EveryRefusal × EveryOrder
-unfolding statedBlocks badBlocks blockTrials badTexts textTrials roomTrials sheetTrials amendTrials undoTrials everyTwo sizeOrder checksumOrder frameOrder twoDataOrder shortCatalogueOrder cardsOrder blockOrders ownOrder recordsOrder linesOrders onLine dataLinesOrder leftToRight firstLineOrder cardLinesOrder blankLinesOrder textOrders amendOrders undoOrders turned wordPut cutTo judged wrongSize walk judgeRecord judgeCards judgeContent judgeData judgeCounts inRange wrongTotal underLeast passing wordWithin wordsOf bytesOf xorAll ones onesIn recordsOf cut toLines written textOf ended linesOf laid cardLines plan part times fieldsOf fieldOf decimal lineCount framed joined bytesFrom wordsIn toBlock readText linesIn endLength onto readLines atEnd readLine inState laterFields firstLine firstFields kindFields catalogueFields headerFields dataFields countFields countsIn prologueFields dataRoom cardsRoom fieldNumbers zeroFields zeroField number readField columns blankAfter rightTo plainLine sheetOf sheetWith entriesOf entries opened started broken allZero isValue noRecord stands amendable undoable onBoth
+unfolding statedBlocks badBlocks blockTrials badTexts textTrials roomTrials sheetTrials amendTrials undoTrials everyTwo sizeOrder checksumOrder frameOrder twoDataOrder shortCatalogueOrder cardsOrder blockOrders ownOrder recordsOrder linesOrders onLine dataLinesOrder leftToRight firstLineOrder cardLinesOrder blankLinesOrder textOrders amendOrders undoOrders turned wordPut cutTo judged wrongSize walk judgeRecord judgeCards judgeContent judgeData judgeCounts inRange wrongTotal underLeast passing wordWithin wordsOf bytesOf xorAll ones onesIn recordsOf cut toLines written textOf ended linesOf laid cardLines plan part times fieldsOf fieldOf decimal lineCount framed joined bytesFrom judgeLines writeBlock readText linesIn endLength onto readLines atEnd readLine inState laterFields firstLine firstFields kindFields catalogueFields headerFields dataFields countFields countsIn prologueFields dataRoom cardsRoom fieldNumbers zeroFields zeroField number readField columns blankAfter rightTo plainLine sheetOf sheetWith entriesOf entries opened started broken allZero isValue noRecord stands amendable undoable onBoth
 tables = ((refl, refl, refl, refl, refl, refl, slices .0), (refl, refl, refl, refl, refl, slices .1))
 
 pub every-refusal : EveryRefusal
@@ -57,12 +57,12 @@ pub every-order : EveryOrder
 every-order = tables .1
 
 -- the length is tested before any line, and then nothing is built
-long-built : (lines out : List ℕ) → 65536 < length lines → toBlock lines out ≡ leaves (answer 30 0 0 0) out
-unfolding toBlock written
+long-built : (lines out : List ℕ) → 65536 < length lines → writeBlock lines out ≡ leaves (answer 30 0 0 0) out
+unfolding writeBlock written
 long-built lines out h = simp (text.too-long lines h)
 
 pub long-first : LongFirst
-unfolding wordsIn
+unfolding judgeLines
 long-first lines room h = (simp (text.too-long lines h), ap (λ (w : Written). w .answer) (long-built lines (replicate room 0) h))
 
 -- so with a slice's length, before any block

@@ -19,7 +19,7 @@ use Rattle.field.specs.Writing.{blanks}
 use Rattle.write_parts.specs.Laid.{fieldsOf, ended}
 use Rattle.report.specs.Text.{text}
 use Rattle.sheet.specs.Sheets.{Entry}
-use Rattle.refusals.specs.Questions.{Question, judgeBlock, blockToLines, judgeText, linesToBlock, amendValue, undoLast, repackBlocks, answerTo, Trial, AnsweredSo, cardsOf, leastRecord, valueRecord, blankCard, inPlace, turned, wordPut, cutTo, dataLine, cardsLine, freeFields, noneStands, oneStands, allStand}
+use Rattle.refusals.specs.Questions.{Question, judgeBlock, blockToLines, judgeText, blockOfText, amendValue, undoLast, repackBlocks, answerTo, Trial, AnsweredSo, cardsOf, leastRecord, valueRecord, blankCard, inPlace, turned, wordPut, cutTo, dataLine, cardsLine, freeFields, noneStands, oneStands, allStand}
 
 -- a change of what is lent, and what is told when it alone is made
 abbrev pub Change : Type 0 → Type 0
@@ -217,7 +217,7 @@ blankLinesOrder = (onLine 1 2 (9 ∷ []), answer 20 1 2 0) ∷ (take 1, answer 2
 -- of a text of these lines, which makes a block of so many bytes: "At the end 21, then 29"
 abbrev pub textOrder : List Line → ℕ → List (Change (List Line)) → List Trial
 textOrder lines bytes changes =
-    everyTwo (λ c. linesToBlock (ended (c .input)) (c .room)) (record { input = lines; room = bytes })
+    everyTwo (λ c. blockOfText (ended (c .input)) (c .room)) (record { input = lines; room = bytes })
     (inPart inInput changes ++ roomOrder bytes)
 
 -- of a Data record; of a Catalogue, whose fields 13 to 20 must be zero; of a Header, whose fields 16 to 20 must; of a Data record behind a blank line
@@ -233,7 +233,7 @@ textOrders =
 abbrev pub LongFirst : Type 0
 LongFirst =
     (lines : List ℕ) (room : ℕ) → 65536 < length lines →
-    (answerTo (judgeText lines) ≡ answer 30 0 0 0) × (answerTo (linesToBlock lines room) ≡ answer 30 0 0 0)
+    (answerTo (judgeText lines) ≡ answer 30 0 0 0) × (answerTo (blockOfText lines room) ≡ answer 30 0 0 0)
 
 -- ---- "Amend: block, 40, 44, 41, 42, 43. Undo: block, 40, 45, 46"
 

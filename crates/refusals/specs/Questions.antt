@@ -11,7 +11,7 @@ use Rattle.words.specs.Words.{wordsOf, bytesOf, word, blockFrom}
 use Rattle.block.specs.Judging.{inner, judged}
 use Rattle.write_parts.specs.Laid.{fieldsOf}
 use Rattle.write_lines.specs.Text.{toLines}
-use Rattle.read_text.specs.Block.{wordsIn, toBlock}
+use Rattle.read_text.specs.Block.{judgeLines, writeBlock}
 use Rattle.sheet.specs.Sheets.{Entry, version1, sheetOf, opened, started}
 use Rattle.amending.specs.Amending.{amend, undo}
 use Rattle.repacking.specs.Repacking.{repack}
@@ -21,7 +21,7 @@ pub data Question : Type 0 where
   judgeBlock : List ℕ → Question
   blockToLines : List ℕ → ℕ → Question
   judgeText : List ℕ → Question
-  linesToBlock : List ℕ → ℕ → Question
+  blockOfText : List ℕ → ℕ → Question
   openSheet : List ℕ → Question
   startSheet : List ℕ → Question
   amendValue : List ℕ → List ℕ → Entry → Question
@@ -32,8 +32,8 @@ pub data Question : Type 0 where
 abbrev pub answerTo : Question → Answer
 answerTo (judgeBlock block) = answered (judged block)
 answerTo (blockToLines block room) = toLines block (replicate room 0) .answer
-answerTo (judgeText lines) = answered (wordsIn lines)
-answerTo (linesToBlock lines room) = toBlock lines (replicate room 0) .answer
+answerTo (judgeText lines) = answered (judgeLines lines)
+answerTo (blockOfText lines room) = writeBlock lines (replicate room 0) .answer
 answerTo (openSheet sheet) = answered (opened version1 sheet)
 answerTo (startSheet sheet) = started version1 sheet .answer
 answerTo (amendValue block sheet entry) = amend version1 entry block sheet .answer

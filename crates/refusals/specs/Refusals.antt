@@ -9,7 +9,7 @@ use Rattle.words.specs.Words.{bytesOf, blockFrom}
 use Rattle.write_parts.specs.Laid.{fieldsOf}
 use Rattle.field.specs.Writing.{blanks}
 use Rattle.report.specs.Text.{text}
-use Rattle.refusals.specs.Questions.{Trial, AnsweredSo, lentTo, judgeBlock, blockToLines, judgeText, linesToBlock, openSheet, startSheet, amendValue, undoLast, repackBlocks, dataOf, cardsOf, leastRecord, valueRecord, blankCard, inPlace, turned, wordPut, dataLine, cardsLine, freeFields, noneStands, oneStands, allStand}
+use Rattle.refusals.specs.Questions.{Trial, AnsweredSo, lentTo, judgeBlock, blockToLines, judgeText, blockOfText, openSheet, startSheet, amendValue, undoLast, repackBlocks, dataOf, cardsOf, leastRecord, valueRecord, blankCard, inPlace, turned, wordPut, dataLine, cardsLine, freeFields, noneStands, oneStands, allStand}
 
 -- the block of the least record, 18 words
 abbrev pub leastBlock : List ℕ
@@ -141,15 +141,25 @@ badTexts =
     ∷ (replicate 65537 10, answer 30 0 0 0)
     ∷ []
 
--- a text judged before it becomes a block, and "lines to block" with no room
+-- "Judging gives every text refusal but 29; writing gives all of them", here with no room
 unfoldable pub textTrials : List Trial
 unfolding badTexts
-textTrials = lentTo judgeText badTexts ++ lentTo (λ t. linesToBlock t 0) badTexts
+textTrials = lentTo judgeText badTexts ++ lentTo (λ t. blockOfText t 0) badTexts
 
--- "output shorter than needed": a byte short of 16 fields and LF, and of 18 words
+-- 7,998 record words, as many as a block takes: a Catalogue of 199 lines, and a Data record of 38 words on two
+abbrev pub fullText : List ℕ
+fullText = cardsLine 199 2101 ++ replicate 199 10 ++ dataLine 2 (38 ∷ 0 ∷ 0 ∷ 0 ∷ replicate 4 0) ++ (10 ∷ fieldsOf (replicate 18 0))
+
+-- "output shorter than needed": a byte short of 16 fields and LF, and of 18 words; "gives the block's size in bytes": of 18 words, and of 8,000
 unfoldable pub roomTrials : List Trial
 unfolding fieldsOf
-roomTrials = (blockToLines leastBlock 96, answer 29 97 0 0) ∷ (linesToBlock (dataLine 1 (16 ∷ 0 ∷ 0 ∷ 0 ∷ [])) 35, answer 29 36 0 0) ∷ []
+roomTrials =
+    (blockToLines leastBlock 96, answer 29 97 0 0)
+    ∷ (blockOfText (dataLine 1 (16 ∷ 0 ∷ 0 ∷ 0 ∷ [])) 35, answer 29 36 0 0)
+    ∷ (judgeText (dataLine 1 (16 ∷ 0 ∷ 0 ∷ 0 ∷ [])), answer 0 36 0 0)
+    ∷ (judgeText fullText, answer 0 16000 0 0)
+    ∷ (blockOfText fullText 15999, answer 29 16000 0 0)
+    ∷ []
 
 -- a sheet opened, and "start an amendment sheet"
 unfoldable pub sheetTrials : List Trial

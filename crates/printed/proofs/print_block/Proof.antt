@@ -6,21 +6,21 @@ use Rattle.units.proofs.Packing.{fitted-is}
 use Rattle.words.specs.Words.{blockFrom}
 use Rattle.words.specs.Outcomes.{leaves}
 use Rattle.read_records.specs.Reading.{readText}
-use Rattle.read_text.specs.Block.{toBlock}
+use Rattle.read_text.specs.Block.{writeBlock}
 use Rattle.printed.proofs.Outcome.{block-bound, ended, text-row}
 use Rattle.printed.proofs.print_block.Statement.{statement}
 use Rattle.printed.proofs.print_block.Tie as tie
 
 -- the four numbers and the buffer are the call's
-told : (c : tie.After-numbers) → let a = c .before .before .before .before .args in
-    leaves (c .numbers .result) (c .before .to-block .last .1 .0) ≡ toBlock (now (a .text)) (now (a .out))
-told c = let t = c .before .to-block .ensures in
-    ap (λ r. leaves r (c .before .to-block .last .1 .0)) (c .numbers .ensures .0 ∙ fitted-is _ (t .packs .a-fits) (t .packs .b-fits)) ∙ t .outcome
+told : (c : tie.After-built-numbers) → let a = c .before .before .before .before .args in
+    leaves (c .built-numbers .result) (c .before .write-block .last .1 .0) ≡ writeBlock (now (a .text)) (now (a .out))
+told c = let t = c .before .write-block .ensures in
+    ap (λ r. leaves r (c .before .write-block .last .1 .0)) (c .built-numbers .ensures .0 ∙ fitted-is _ (t .packs .a-fits) (t .packs .b-fits)) ∙ t .outcome
 
 returns : tie.Need-returns
-unfolding toBlock
+unfolding writeBlock
 returns c = let n = c .before .before in let t = now (n .before .before .before .before .args .text) in
-    ended blockFrom 29 _ (c .end-or-refusal .ensures) (readText t) (omega (arith, block-bound t, n .before .before .to-block-arg .given .0 .1)) (text-row t) (told n)
+    ended blockFrom 29 _ (c .end-or-refusal .ensures) (readText t) (omega (arith, block-bound t, n .before .before .write-block-arg .given .0 .1)) (text-row t) (told n)
 
 pub print-block-spec : {M : Type 1} → statement M
 print-block-spec =

@@ -1,11 +1,9 @@
 use denote.Ref.{now}
-use mathlib.Core.Path.{_≡_, refl, sym, _∙_}
+use mathlib.Core.Path.{refl, sym, _∙_}
 use Prim.Native.Nat.{_-_, _≤_}
 use native.Mathlib.Omega.{arith}
-use borrow.Author.Needs.{needs}
 use borrow.Author.Tests.{not-true, not-false}
-use lib.ListN.{length, drop}
-use Rattle.words.specs.Scans.{within, plainIn}
+use Rattle.words.specs.Scans.{within}
 use Rattle.words.proofs.Scans.{scan-on, scan-stop}
 use Rattle.read_cut.specs.Lines.{PlainOn}
 use Rattle.read_cut.proofs.plain_upto.Statement.{statement}
