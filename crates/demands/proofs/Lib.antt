@@ -4,6 +4,7 @@ pub mod Sheets
 pub mod Demand3
 pub mod WholeFiles
 pub mod LookBeforeYouWrite
+pub mod TakenFor
 pub mod Records
 pub mod Lines
 pub mod ExclusiveOr

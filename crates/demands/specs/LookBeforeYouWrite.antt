@@ -4,10 +4,12 @@ use mathlib.Core.Logic.{_⊎_}
 use mathlib.Core.Path.{_≡_}
 use mathlib.Core.List.{List}
 use Prim.Native.Nat.{ℕ, _%_, _≤_, _<_}
-use lib.ListN.{length}
+use lib.ListN.{length, getD}
 use Rattle.units.specs.declared.Answer.{Answer}
 use Rattle.units.specs.Answers.{answer, passed, refused, takenApart}
+use Rattle.words.specs.Words.{All, Below}
 use Rattle.words.specs.Outcomes.{leaves}
+use Rattle.block.specs.Judging.{Accepted}
 use Rattle.read_text.specs.Block.{judgeLines, writeBlock}
 use Rattle.cedar.specs.Promises.{CedarJudgesLines, CedarWritesBlock}
 use Rattle.demands.specs.Demand1.{Tells}
@@ -42,3 +44,17 @@ CedarJudgedThenWritten =
     (takenApart judged .n ≡ 0 → size ≤ length block → written ≡ judged)
     × (takenApart judged .n ≡ 0 → length block < size → Tells written (answer 29 size 0 0) × (after ≡ block))
     × ((takenApart judged .n ≡ 0 → ⊥) → (written ≡ judged) × (after ≡ block))
+
+-- ---- `cedar check`, which takes a file as a block or as lines by its first six bytes
+
+-- a byte that no text has: a control character but TAB, LF and CR
+pub data NotOfText (x : ℕ) : Type 0 where
+  before-tab : x < 9 → NotOfText x
+  after-lf : 11 ≤ x → x ≤ 12 → NotOfText x
+  after-cr : 14 ≤ x → x ≤ 31 → NotOfText x
+
+-- the fifth byte of an accepted block is one, and there is none in an accepted text: so each is taken for what it is, and nothing is both
+abbrev pub TakenFor : Type 0
+TakenFor =
+    ((b : List ℕ) → Below 256 b → Accepted b → (5 ≤ length b) × NotOfText (getD b 4 0))
+    × ((t : List ℕ) (size : ℕ) → judgeLines t ≡ passed size → All (λ x. NotOfText x → ⊥) t)
