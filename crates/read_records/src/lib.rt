@@ -6,11 +6,6 @@ use units::Bytes;
 use units::Lines;
 use units::Words;
 ghost use mathlib.Core.Path.{_≡_};
-ghost use mathlib.Core.List.{[]};
-ghost use Prim.Native.Nat.{_≤_};
-ghost use lib.ListN.{length};
-ghost use Rattle.read_cut.specs.Lines.{linesIn};
-ghost use Rattle.read_line.specs.Lines.{readLines};
 ghost use Rattle.read_first_line.specs.State.{toCome};
 ghost use Rattle.read_records.specs.Content.{stored, storedOf, Ended};
 ghost use Rattle.read_records.specs.Reading.{readText};
@@ -38,11 +33,13 @@ fn at_end(rest: Rest, num: Lines, held: Words) -> Content
     Content::RecordWords(held)
 }
 
-// Reads the lines of a text, and puts their words into the block behind its length word, as far as it has room.
-fn read_lines(text: &[u8], block: &mut [u8]) -> Content
-    requires { ⌜ length (now text) ≤ 65536 ⌝ }
-    ensures { λ r. ⌜ storedOf (now (block .exit)) r ≡ stored 0 (now (block .entry)) (readLines 1 0 [] (linesIn (now (text .entry)))) ⌝ }
+// Reads a text, line by line, and puts its words into the block behind its length word, as far as it has room.
+pub fn read(text: &[u8], block: &mut [u8]) -> Content
+    ensures { λ r. ⌜ storedOf (now (block .exit)) r ≡ stored 0 (now (block .entry)) (readText (now (text .entry))) ⌝ }
 {
+    if 65536 < text.len() {
+        return Content::Flawed(Flaw::Long);
+    }
     let mut row = [0u16; 20];
     let mut rest = read_first_line::cards_only(Lines(0));
     let mut held = Words(0);
@@ -72,14 +69,4 @@ fn read_lines(text: &[u8], block: &mut [u8]) -> Content
         }
     }
     at_end(rest, Lines(num), held)
-}
-
-// Reads a text that is not too long.
-pub fn read(text: &[u8], block: &mut [u8]) -> Content
-    ensures { λ r. ⌜ storedOf (now (block .exit)) r ≡ stored 0 (now (block .entry)) (readText (now (text .entry))) ⌝ }
-{
-    if 65536 < text.len() {
-        return Content::Flawed(Flaw::Long);
-    }
-    read_lines(text, block)
 }
