@@ -221,8 +221,7 @@ makes_nothing() {
     rm -rf "$work/alone"
     mkdir "$work/alone"
     cp "$1" "$work/alone/file"
-    (cd "$work/alone" && TMPDIR=$work/room "$work/names/link" check file >/dev/null)
-    [ "$(ls -A "$work/alone")$(ls -A "$work/room")" = file ] && cmp "$1" "$work/alone/file"
+    (cd "$work/alone" && TMPDIR=$work/room "$work/names/link" check file >/dev/null) && [ "$(ls -A "$work/alone")$(ls -A "$work/room")" = file ] && cmp "$1" "$work/alone/file"
 }
 
 for file in example/k.lines "$night"; do

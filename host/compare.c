@@ -151,7 +151,7 @@ static uint64_t check_pair(struct trials *trials, struct chance *chance, const s
     const size_t lengths[] = {between(chance, 0, CEDAR_BLOCK_MOST), size - 1, size};
     bool sized = size > 0 && size <= CEDAR_BLOCK_MOST;
 
-    if (case_fails(trials, "a block's size", sized))
+    if (cedar_n(judged) == 0 && case_fails(trials, "a block's size", sized))
         print_answer("judge lines", judged);
     for (size_t i = 0; sized && i < sizeof lengths / sizeof lengths[0]; i++)
         check_foretold(trials, chance, text, judged, block, lengths[i]);

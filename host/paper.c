@@ -32,13 +32,15 @@ struct bytes {
     size_t length;
 };
 
-/* Whether the call writes this output where there is just room for it, and asks for that room where a byte lacks. */
+/* Whether the call writes this output where there is just room for it, and only asks for that room where a byte lacks. */
 static bool writes(conversion *call, struct bytes input, struct bytes output)
 {
+    static const uint8_t before[CEDAR_TEXT_MOST];
     static uint8_t written[CEDAR_TEXT_MOST];
 
     memset(written, 0, sizeof written);
     return call(input.at, input.length, written, output.length - 1) == pack(29, output.length, 0, 0) &&
+           memcmp(written, before, sizeof written) == 0 &&
            call(input.at, input.length, written, output.length) == pack(0, output.length, 0, 0) &&
            memcmp(written, output.at, output.length) == 0;
 }

@@ -15,7 +15,7 @@
  * The caller answers for the buffers.
  *   A buffer has as many bytes as its length says, and all may be written if it is not `const`.
  *   For length 0 any pointer but NULL will do.
- *   Buffers lent to one call do not overlap.
+ *   Buffers lent to one call do not overlap, and nobody else changes them until it returns.
  *
  * A block
  *   is 18 to 8,000 words of 16 bits, each with its high byte first, in two's complement.
@@ -123,8 +123,11 @@ enum { CEDAR_TEXT_MOST = 55971 };
  */
 uint64_t cedar_to_lines(const uint8_t *block, size_t block_length, uint8_t *text, size_t text_length);
 
-/* Bytes: of the longest text that is read, and that suffice for the block of any text. */
-enum { CEDAR_READ_MOST = 65536, CEDAR_BLOCK_MOST = 16000 };
+/* Bytes of the longest text that is read. */
+enum { CEDAR_READ_MOST = 65536 };
+
+/* Bytes that suffice for the block of any text. */
+enum { CEDAR_BLOCK_MOST = 16000 };
 
 /*
  * Judges the lines in the `text_length` bytes at `text`, and tells how many bytes their block needs; writes nothing.
@@ -171,8 +174,9 @@ uint64_t cedar_judge_lines(const uint8_t *text, size_t text_length);
  *   29            the output is shorter than needed        bytes needed
  *
  * Tried in this order: 20 to 28 and 30 as there, then 29.
- * To look before you write: judge the lines, find a buffer of cedar_a(answer) bytes, write into it.
- * This call judges again, so a text that was changed in between, or that was never judged, is safe.
+ * To look before you write: judge the lines; where n is 0, find a buffer of cedar_a(answer) bytes, and write into it.
+ * For the same text both calls give the same refusal, or the same a.
+ * This call judges again, so a text that was changed between the two, or that was never judged, is safe.
  * Where there are CEDAR_BLOCK_MOST bytes anyway this call alone will do: it reads the text twice, the pair three times.
  * Bytes of the block past those written stay as they are.
  */

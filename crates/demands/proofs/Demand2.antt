@@ -52,7 +52,7 @@ block-written : (t out ws : List ℕ) → readText t ≡ passed ws → length (b
 unfolding writeBlock
 block-written t out ws e h = rw e (with-room 29 (blockFrom ws) out h)
 
-size-judged : (t ws : List ℕ) → readText t ≡ passed ws → judgeLines t ≡ passed (length (blockFrom ws))
+pub size-judged : (t ws : List ℕ) → readText t ≡ passed ws → judgeLines t ≡ passed (length (blockFrom ws))
 unfolding judgeLines
 size-judged t ws e = rw e
 

@@ -8,12 +8,13 @@ use lib.ListN.{length, drop}
 use Rattle.units.specs.declared.Answer.{Answer}
 use Rattle.units.specs.Answers.{answer, Verdict, passed, refused, onward, answered, packedOf}
 use Rattle.units.proofs.Told.{Known}
-use Rattle.units.proofs.Verdicts.{never-passed, else-passed, onward-passed}
-use Rattle.words.specs.Words.{blockFrom}
+use Rattle.units.proofs.Verdicts.{never-passed, else-passed}
+use Rattle.words.specs.Words.{joined, blockFrom}
 use Rattle.words.specs.Outcomes.{Written, written, leaves}
 use Rattle.words.proofs.Writing.{too-short, written-either}
 use Rattle.words.proofs.Laws.{length-wordsOf}
 use Rattle.block.specs.Judging.{wrongSize, judged}
+use Rattle.block.specs.Rules.{blockOf}
 use Rattle.block.proofs.Size.{size-right}
 use Rattle.read_records.specs.Cases.{TextRow}
 use Rattle.read_records.specs.Reading.{readText}
@@ -23,9 +24,12 @@ use Rattle.cedar.specs.Calls.{judgeLinesAnswer}
 use Rattle.cedar.specs.Promises.{CedarJudgesLines, CedarWritesBlock}
 use Rattle.demands.specs.Demand1.{Tells}
 use Rattle.demands.specs.Demand2.{wrote}
-use Rattle.demands.specs.LookBeforeYouWrite.{JudgedThenWritten, SizeOfABlock, CedarJudgedThenWritten}
+use Rattle.demands.specs.LookBeforeYouWrite.{JudgedExactly, JudgedThenWritten, SizeOfABlock, CedarJudgedThenWritten}
+use Rattle.read_text.proofs.Outcome.{refusal-judged}
+use Rattle.demands.specs.Texts.{IsText}
+use Rattle.demands.proofs.Texts.{texts-exactly}
 use Rattle.demands.proofs.Demand1.{judge-lines-answers, cedar-judge-lines-tells, cedar-block-tells}
-use Rattle.demands.proofs.Demand2.{with-room, text-gives-block}
+use Rattle.demands.proofs.Demand2.{with-room, size-judged, text-gives-block}
 
 -- the size of what passed
 abbrev sizeIn : Verdict (List ℕ) → Verdict ℕ
@@ -73,18 +77,43 @@ pub judged-then-written : JudgedThenWritten
 unfolding judgeLines writeBlock
 judged-then-written t out = let v = blockIn t in ((size-holds v out, size-needed v out, refusal-holds v out), written-holds v out (text-row t))
 
+-- ---- which texts, and which size
+
+-- judging a text goes by its reading
+pub judged-read : (t : List ℕ) (size : ℕ) → judgeLines t ≡ passed size → (ws : List ℕ) × (readText t ≡ passed ws) × (length (blockFrom ws) ≡ size)
+unfolding judgeLines
+judged-read t size = by (readText t) refl
+  where
+    by : (v : Verdict (List ℕ)) → readText t ≡ v → sizeIn (onward v (λ ws. passed (blockFrom ws))) ≡ passed size → (ws : List ℕ) × (readText t ≡ passed ws) × (length (blockFrom ws) ≡ size)
+    by (passed ws) is e = (ws, is, cc)
+    by (refused r) is e = absurd (never-passed e)
+
+refused-read : (t : List ℕ) (r : Answer) → judgeLines t ≡ refused r → readText t ≡ refused r
+unfolding judgeLines
+refused-read t r = by (readText t)
+  where
+    by : (v : Verdict (List ℕ)) → sizeIn (onward v (λ ws. passed (blockFrom ws))) ≡ refused r → v ≡ refused r
+    by (passed ws) e = absurd (never-passed (sym e))
+    by (refused s) e = let k : s ≡ r = cc in ap (λ x. refused x) k
+
+pub judged-exactly : JudgedExactly
+judged-exactly t = (λ size. (given size, taken size), λ r. (refused-read t r, λ e. sym (refusal-judged t e)))
+  where
+    given : (size : ℕ) → judgeLines t ≡ passed size → (rs : List (List ℕ)) × IsText t rs × (size ≡ length (blockOf rs))
+    given size e = let j = judged-read t size e in let i = texts-exactly t (j .0) .0 (j .1) in (i .0, i .1, sym (j .2) ∙ ap (λ ws. length (blockFrom ws)) (i .2))
+
+    taken : (size : ℕ) → (rs : List (List ℕ)) × IsText t rs × (size ≡ length (blockOf rs)) → judgeLines t ≡ passed size
+    taken size i = size-judged t (joined (i .0)) (texts-exactly t (joined (i .0)) .1 (i .0, i .1, refl)) ∙ ap (λ k. passed k) (sym (i .2))
+
 -- ---- the size
 
 pub size-of-a-block : SizeOfABlock
-unfolding judgeLines judged
+unfolding judged
 size-of-a-block t size e =
-    let b = onward-passed (blockIn t) (λ b. passed (length b)) size e in
-    let w = onward-passed (readText t) (λ ws. passed (blockFrom ws)) (b .0) (b .1) in
+    let w = judged-read t size e in
     let g = text-gives-block t (w .0) (w .1) in
     let s = size-right (blockFrom (w .0)) (else-passed (wrongSize (length (blockFrom (w .0)))) (answer 1 0 0 0) _ (length (g .0)) (g .2) .0) in
-    let same : blockFrom (w .0) ≡ b .0 = cc in
-    let k : length (b .0) ≡ size = cc in
-    omega (arith, ap length same, s, length-wordsOf (blockFrom (w .0)))
+    omega (arith, w .2, s, length-wordsOf (blockFrom (w .0)))
 
 -- ---- for C
 

@@ -23,7 +23,7 @@ use Rattle.read_text.specs.Block.{judgeLines, writeBlock}
 use Rattle.repacking.specs.Repacking.{repack}
 use Rattle.report.specs.Text.{lineOf}
 use Rattle.report.specs.Decimal.{decimalOf}
-use Rattle.report.specs.Refusal.{orRefusal}
+use Rattle.report.specs.Refusal.{refusalLine, orRefusal}
 use Rattle.listed.specs.Listing.{listingOf}
 use Rattle.printed.specs.Printed.{Printed, linesPrinted, sizePrinted, blockPrinted, blocksPrinted}
 use Rattle.printed.proofs.Outcome.{lines-bound, block-bound, blocks-bound, text-row, slice-row}
@@ -54,9 +54,10 @@ unfolding judgeLines
 tested-first text = by (readText text) refl
   where
     by : (v : Verdict (List ℕ)) → readText text ≡ v → let size = onward (onward v (λ ws. passed (blockFrom ws))) (λ b. passed (length b)) in let block = orRefusal blockFrom v in
-        ((r : Answer) → size ≡ refused r → orRefusal (λ n. lineOf (decimalOf n ∷ [])) size ≡ block) × ((n : ℕ) → size ≡ passed n → length block ≡ n)
-    by (passed ws) e = (λ r f. absurd (never-passed (sym f)), λ n f. cc)
-    by (refused r) e = (λ r f. refl, λ n f. absurd (never-passed f))
+        let said = orRefusal (λ n. lineOf (decimalOf n ∷ [])) size in
+        ((r : Answer) → size ≡ refused r → (said ≡ refusalLine r) × (block ≡ refusalLine r)) × ((n : ℕ) → size ≡ passed n → (said ≡ lineOf (decimalOf n ∷ [])) × (length block ≡ n))
+    by (passed ws) e = (λ r f. absurd (never-passed (sym f)), λ n f. let k : length (blockFrom ws) ≡ n = cc in (ap (λ m. lineOf (decimalOf m ∷ [])) k, k))
+    by (refused s) e = (λ r f. let k : s ≡ r = cc in (ap refusalLine k, ap refusalLine k), λ n f. absurd (never-passed f))
 
 -- ---- what the calls give
 

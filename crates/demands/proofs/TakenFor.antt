@@ -12,7 +12,6 @@ use Rattle.units.specs.Choice.{if_then_else_}
 use Rattle.units.specs.Units.{Line}
 use Rattle.units.specs.Answers.{passed}
 use Rattle.units.proofs.Choosing.{by-test, both-ways}
-use Rattle.units.proofs.Verdicts.{onward-passed}
 use Rattle.words.specs.Words.{All, Below, word, bytesOf, joined, framed, blockFrom}
 use Rattle.words.proofs.Lists.{all-map}
 use Rattle.record.specs.Rules.{RecordOk, KindOk, catalogue, header, dataRecord}
@@ -20,10 +19,10 @@ use Rattle.block.specs.Judging.{Accepted}
 use Rattle.block.specs.Records.{recordsOf}
 use Rattle.block.proofs.Exact.{only-good, ok-long}
 use Rattle.read_cut.specs.Lines.{onto, endLength, linesIn}
-use Rattle.read_records.specs.Reading.{readText}
 use Rattle.read_records.specs.Spelled.{PlainByte, Readable}
-use Rattle.read_text.specs.Block.{blockIn, judgeLines}
+use Rattle.read_text.specs.Block.{judgeLines}
 use Rattle.demands.specs.LookBeforeYouWrite.{NotOfText, before-tab, after-lf, after-cr, TakenFor}
+use Rattle.demands.proofs.LookBeforeYouWrite.{judged-read}
 use Rattle.demands.proofs.Sound.{its-text}
 
 -- ---- a block
@@ -91,10 +90,8 @@ end-of-text x e n = by e n
     by (inr e) (after-cr h k) = omega arith
 
 text-bytes : (t : List ℕ) (size : ℕ) → judgeLines t ≡ passed size → All (λ x. NotOfText x → ⊥) t
-unfolding judgeLines
 text-bytes t size e =
-    let b = onward-passed (blockIn t) (λ b. passed (length b)) size e in
-    let w = onward-passed (readText t) (λ ws. passed (blockFrom ws)) (b .0) (b .1) in
+    let w = judged-read t size e in
     let i = its-text t (w .0) (w .1) .1 in
     all-bytes (λ x. NotOfText x → ⊥) end-of-text t (all-map Readable (All (λ x. NotOfText x → ⊥)) (λ l r. all-map PlainByte (λ x. NotOfText x → ⊥) plain-of-text l (r .bytes)) (linesIn t) (i .lines))
 

@@ -1,6 +1,6 @@
 -- Document 02, request 2, "Look before you write": what judging a text says of writing its block, and what writing says of judging.
 -- "The second judges again": what it leaves is a function of the text and the block lent to it. So nothing here asks whether somebody has looked before.
-use mathlib.Core.Logic.{_⊎_}
+use mathlib.Core.Logic.{_↔_, _⊎_}
 use mathlib.Core.Path.{_≡_}
 use mathlib.Core.List.{List}
 use Prim.Native.Nat.{ℕ, _%_, _≤_, _<_}
@@ -10,10 +10,20 @@ use Rattle.units.specs.Answers.{answer, passed, refused, takenApart}
 use Rattle.words.specs.Words.{All, Below}
 use Rattle.words.specs.Outcomes.{leaves}
 use Rattle.block.specs.Judging.{Accepted}
+use Rattle.block.specs.Rules.{blockOf}
+use Rattle.read_records.specs.Reading.{readText}
 use Rattle.read_text.specs.Block.{judgeLines, writeBlock}
 use Rattle.cedar.specs.Promises.{CedarJudgesLines, CedarWritesBlock}
 use Rattle.demands.specs.Demand1.{Tells}
 use Rattle.demands.specs.Demand2.{wrote}
+use Rattle.demands.specs.Texts.{IsText}
+
+-- judging accepts exactly the texts of good records, with the size of their block; what refuses the reading is the refusal
+abbrev pub JudgedExactly : Type 0
+JudgedExactly =
+    (t : List ℕ) →
+    ((size : ℕ) → (judgeLines t ≡ passed size) ↔ ((rs : List (List ℕ)) × IsText t rs × (size ≡ length (blockOf rs))))
+    × ((r : Answer) → (judgeLines t ≡ refused r) ↔ (readText t ≡ refused r))
 
 -- what was judged holds for writing: into that many bytes or more these are written, into fewer 29 asks for them, and a refusal is the refusal of writing
 abbrev pub JudgedHolds : List ℕ → List ℕ → Type 0

@@ -1,6 +1,6 @@
 -- What the programs write: of an array that was printed into, the bytes before the place that the printing gives.
 use mathlib.Core.Path.{_≡_}
-use mathlib.Core.List.{List}
+use mathlib.Core.List.{List, [], _∷_}
 use Prim.Native.Nat.{ℕ, _≤_}
 use lib.Dec.{eqb}
 use lib.ListN.{length, take}
@@ -12,6 +12,8 @@ use Rattle.words.specs.Outcomes.{Written}
 use Rattle.write_lines.specs.Text.{toLines}
 use Rattle.read_text.specs.Block.{judgeLines, writeBlock}
 use Rattle.repacking.specs.Repacking.{repack}
+use Rattle.report.specs.Text.{lineOf}
+use Rattle.report.specs.Decimal.{decimalOf}
 use Rattle.report.specs.Refusal.{refusalLine}
 use Rattle.listed.specs.Listing.{listingOf}
 use Rattle.printed.specs.Printed.{linesPrinted, sizePrinted, blockPrinted, blocksPrinted}
@@ -39,11 +41,12 @@ BlockWritten = (text out after : List ℕ) (end : ℕ) → PrintsBlock text out 
 abbrev pub BlocksWritten : Type 0
 BlocksWritten = (slice out after : List ℕ) (end : ℕ) → PrintsBlocks slice out end after → take end after ≡ blocksPrinted slice
 
--- "test lines before it finds a buffer": where they are refused, `lines_to_block` prints what `check_lines` does; where not, that is the size of the block
+-- "test lines before it finds a buffer": of refused lines `check_lines` prints what `lines_to_block` does, the refusal; of others the size of the block that this prints
 abbrev pub TestedFirst : Type 0
 TestedFirst =
     (text : List ℕ) →
-    ((r : Answer) → judgeLines text ≡ refused r → sizePrinted text ≡ blockPrinted text) × ((size : ℕ) → judgeLines text ≡ passed size → length (blockPrinted text) ≡ size)
+    ((r : Answer) → judgeLines text ≡ refused r → (sizePrinted text ≡ refusalLine r) × (blockPrinted text ≡ refusalLine r))
+    × ((size : ℕ) → judgeLines text ≡ passed size → (sizePrinted text ≡ lineOf (decimalOf size ∷ [])) × (length (blockPrinted text) ≡ size))
 
 -- ---- and that is what the call of the same name gives, into an output that has always room
 
