@@ -1,7 +1,7 @@
 /*
  * cedar.h: the C calls of Nalungkep, a proved converter for CEDAR radar data.
  *
- * The library judges binary blocks of the CEDAR database format, writes their lines, reads lines back to a block,
+ * The library judges binary blocks of the CEDAR database format, writes their lines, judges lines, writes their block,
  * repacks blocks, amends a block's values and undoes that, and finds instruments' prefixes.
  * The calls are proved, for every input, against definitions; this page says in words what those say.
  * Link x86-64 programs with libcedar.a; of the C library it needs memset alone.

@@ -120,7 +120,7 @@ lined-back (Text size) = refl
 lined-back (lines.Short size) = refl
 lined-back (lines.Refused r) = simp (other r 0 (inl refl), other r 29 (inr (omega arith))) (ap lines.Refused (refusal-back r))
 
--- the case that the numbers of lines to block tell
+-- the case that the numbers of writing a block tell
 builtCase : Answer → Built
 builtCase r =
     let line : Lines = record { 0 = r .a } in
@@ -159,6 +159,7 @@ flawIn (Block size) = Long
 flawIn (built.Refused f) = f
 flawIn (built.Short size) = Long
 
+-- the case that a size or a refusal tells
 sizeCase : Verdict ℕ → looked.Judged
 sizeCase (passed n) = text.Size (record { 0 = n })
 sizeCase (refused r) = text.Flawed (flawIn (builtCase r))

@@ -14,7 +14,6 @@ use Rattle.units.proofs.Packing.{taken-apart}
 use Rattle.units.proofs.Verdicts.{and-on, never-passed}
 use Rattle.words.specs.Words.{All, Below, blockFrom}
 use Rattle.words.specs.Outcomes.{Written, written, leaves}
-use Rattle.words.proofs.Sealing.{length-framed}
 use Rattle.words.proofs.Writing.{written-either}
 use Rattle.block.specs.Cases.{BlockRow}
 use Rattle.block.specs.Judging.{judged}
@@ -29,8 +28,7 @@ use Rattle.cedar.specs.Calls.{returned, converted, returnedBoth, amendedBoth}
 use Rattle.read_records.specs.Cases.{TextRow}
 use Rattle.read_records.specs.Reading.{readText}
 use Rattle.read_text.specs.Block.{judgeLines, writeBlock}
-use Rattle.read_records.proofs.Known.{WordsFit, text-known}
-use Rattle.read_text.proofs.Known.{answer-told}
+use Rattle.read_text.proofs.Known.{size-known, answer-told}
 use Rattle.demands.specs.Demand1.{Unpacks, Judgement, JudgeAnswers, PrefixAnswers, LinesAnswers, JudgeLinesAnswers, BlockAnswers, RepackAnswers, Writes, SheetRow, OpenAnswers, StartAnswers, BothAnswer, AmendRow, AmendAnswers, UndoRow, UndoAnswers, CedarJudgeTells, CedarPrefixTells, TellsWritten, CedarLinesTell, CedarJudgeLinesTells, CedarBlockTells, CedarStartTells, CedarRepackTells, TellsBoth, CedarAmendTells, CedarUndoTells}
 use Rattle.units.specs.declared.Answer.{Answer}
 use Rattle.units.proofs.Choosing.{by-test, both-ways}
@@ -118,11 +116,10 @@ repack-answers slice out bytes =
     ((t .0, taken-apart (repack slice out .answer) (t .1)), kept 50 out (onward (blocksIn slice) (λ blocks. passed (repacked (recordsIn blocks)))))
 
 pub judge-lines-answers : JudgeLinesAnswers
-unfolding judgeLines
-judge-lines-answers text = by (readText text) (text-known text)
+judge-lines-answers text = by (judgeLines text) (size-known text)
   where
-    by : (v : Verdict (List ℕ)) → Known TextRow (WordsFit 0) v → Judgement TextRow (onward (onward v (λ ws. passed (blockFrom ws))) (λ b. passed (length b)))
-    by (passed ws) h = taken-apart (answer 0 (length (blockFrom ws)) 0 0) (omega (arith, length-framed ws, h .most))
+    by : (v : Verdict ℕ) → Known TextRow (λ size. size ≤ 16000) v → Judgement TextRow v
+    by (passed size) h = taken-apart (answer 0 size 0 0) (omega (arith, h))
     by (refused r) h = (h .listed, taken-apart r (h .packs))
 
 pub block-answers : BlockAnswers

@@ -16,6 +16,7 @@ use Rattle.write_lines.specs.Text.{textOf, toLines}
 use Rattle.write_lines.proofs.Outcome.{when-accepted}
 use Rattle.read_records.specs.Reading.{readText}
 use Rattle.read_text.specs.Block.{judgeLines, writeBlock}
+use Rattle.read_text.proofs.Outcome.{read-judged}
 use Rattle.demands.specs.Demand2.{AcceptedExactly, OneWay, bytesIn, wrote, standard, LinesRead, BlockLinesBlock, TextGivesBlock, WrittenAccepted, LinesBlockLines, StandardRead, StandardStays, OneStandard}
 use Rattle.demands.proofs.Standard.{text-back}
 use Rattle.demands.proofs.Sound.{its-text}
@@ -52,10 +53,6 @@ block-written : (t out ws : List ℕ) → readText t ≡ passed ws → length (b
 unfolding writeBlock
 block-written t out ws e h = rw e (with-room 29 (blockFrom ws) out h)
 
-pub size-judged : (t ws : List ℕ) → readText t ≡ passed ws → judgeLines t ≡ passed (length (blockFrom ws))
-unfolding judgeLines
-size-judged t ws e = rw e
-
 -- ---- the round trips
 
 pub block-lines-block : BlockLinesBlock
@@ -65,7 +62,7 @@ block-lines-block b text out bytes a room-text room-out =
     let l = lines-written b text (a .count) (a .is) room-text in
     let read = text-back rs (g .each) (g .some) (g .most) in (
       l,
-      ap (λ w. judgeLines (bytesIn w)) l ∙ ap judgeLines (bytes-in (textOf rs) text) ∙ size-judged (textOf rs) (joined rs) read ∙ ap (λ c. passed (length c)) (sym (g .bytes)),
+      ap (λ w. judgeLines (bytesIn w)) l ∙ ap judgeLines (bytes-in (textOf rs) text) ∙ read-judged (textOf rs) (joined rs) read ∙ ap (λ c. passed (length c)) (sym (g .bytes)),
       ap (λ w. writeBlock (bytesIn w) out) l
           ∙ ap (λ s. writeBlock s out) (bytes-in (textOf rs) text)
           ∙ block-written (textOf rs) out (joined rs) read (rw (← g .bytes) room-out)
@@ -121,10 +118,10 @@ lines-block-lines t ws out text e room-out room-text =
     ∙ ap (λ c. toLines c text) (bytes-in b out)
     ∙ lines-written b text (length rs) (every-good b rs (text-gives-block t ws e .1)) room-text in
     let again = standard-read t ws e in (
-      size-judged t ws e,
+      read-judged t ws e,
       block,
       lines,
-      ap (λ w. judgeLines (bytesIn w)) lines ∙ ap judgeLines (bytes-in (standard ws) text) ∙ size-judged (standard ws) ws again ∙ sym (size-judged t ws e),
+      ap (λ w. judgeLines (bytesIn w)) lines ∙ ap judgeLines (bytes-in (standard ws) text) ∙ read-judged (standard ws) ws again ∙ sym (read-judged t ws e),
       ap (λ w. writeBlock (bytesIn w) out) lines
           ∙ ap (λ s. writeBlock s out) (bytes-in (standard ws) text)
           ∙ block-written (standard ws) out ws again room-out

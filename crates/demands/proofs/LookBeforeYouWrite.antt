@@ -4,32 +4,31 @@ use mathlib.Core.Path.{_≡_, refl, sym, ap, subst, _∙_}
 use mathlib.Core.List.{List, _++_}
 use Prim.Native.Nat.{ℕ, _≤_, _<_}
 use native.Mathlib.Omega.{arith}
-use lib.ListN.{length, drop}
+use lib.ListN.{length, take, drop}
+use lib.Seq.{drop-at}
 use Rattle.units.specs.declared.Answer.{Answer}
 use Rattle.units.specs.Answers.{answer, Verdict, passed, refused, onward, answered, packedOf}
-use Rattle.units.proofs.Told.{Known}
 use Rattle.units.proofs.Verdicts.{never-passed, else-passed}
 use Rattle.words.specs.Words.{joined, blockFrom}
 use Rattle.words.specs.Outcomes.{Written, written, leaves}
 use Rattle.words.proofs.Writing.{too-short, written-either}
 use Rattle.words.proofs.Laws.{length-wordsOf}
-use Rattle.block.specs.Judging.{wrongSize, judged}
+use Rattle.block.specs.Judging.{wrongSize, judged, Accepted}
 use Rattle.block.specs.Rules.{blockOf}
 use Rattle.block.proofs.Size.{size-right}
 use Rattle.read_records.specs.Cases.{TextRow}
-use Rattle.read_records.specs.Reading.{readText}
-use Rattle.read_records.proofs.Known.{WordsFit, text-known}
+use Rattle.read_text.proofs.Known.{block-known}
 use Rattle.read_text.specs.Block.{blockIn, judgeLines, writeBlock}
 use Rattle.cedar.specs.Calls.{judgeLinesAnswer}
 use Rattle.cedar.specs.Promises.{CedarJudgesLines, CedarWritesBlock}
 use Rattle.demands.specs.Demand1.{Tells}
-use Rattle.demands.specs.Demand2.{wrote}
+use Rattle.demands.specs.Demand2.{bytesIn, wrote}
 use Rattle.demands.specs.LookBeforeYouWrite.{JudgedExactly, JudgedThenWritten, SizeOfABlock, CedarJudgedThenWritten}
-use Rattle.read_text.proofs.Outcome.{refusal-judged}
+use Rattle.read_text.proofs.Outcome.{read-judged, judged-read, refused-read, refusal-judged}
 use Rattle.demands.specs.Texts.{IsText}
 use Rattle.demands.proofs.Texts.{texts-exactly}
 use Rattle.demands.proofs.Demand1.{judge-lines-answers, cedar-judge-lines-tells, cedar-block-tells}
-use Rattle.demands.proofs.Demand2.{with-room, size-judged, text-gives-block}
+use Rattle.demands.proofs.Demand2.{with-room, text-gives-block, written-accepted}
 
 -- the size of what passed
 abbrev sizeIn : Verdict (List ℕ) → Verdict ℕ
@@ -66,35 +65,14 @@ written-holds (passed b) out row = by (written-either 29 out b)
     by (inr e) = (λ _. ap (λ w. passed (w .answer .a)) (sym e), λ z _. absurd (z (ap (λ w. w .answer .n) e)))
 
 -- the rows of a text that is refused
-text-row : (t : List ℕ) (r : Answer) → blockIn t ≡ refused r → TextRow (r .n)
-text-row t r = by (readText t) (text-known t)
-  where
-    by : (v : Verdict (List ℕ)) → Known TextRow (WordsFit 0) v → onward v (λ ws. passed (blockFrom ws)) ≡ refused r → TextRow (r .n)
-    by (passed ws) h e = absurd (never-passed (sym e))
-    by (refused s) h e = let k : s ≡ r = cc in rw (sym k) (h .listed)
+blocks-row : (t : List ℕ) (r : Answer) → blockIn t ≡ refused r → TextRow (r .n)
+blocks-row t r e = (rw e at (block-known t)) .listed
 
 pub judged-then-written : JudgedThenWritten
 unfolding judgeLines writeBlock
-judged-then-written t out = let v = blockIn t in ((size-holds v out, size-needed v out, refusal-holds v out), written-holds v out (text-row t))
+judged-then-written t out = let v = blockIn t in ((size-holds v out, size-needed v out, refusal-holds v out), written-holds v out (blocks-row t))
 
 -- ---- which texts, and which size
-
--- judging a text goes by its reading
-pub judged-read : (t : List ℕ) (size : ℕ) → judgeLines t ≡ passed size → (ws : List ℕ) × (readText t ≡ passed ws) × (length (blockFrom ws) ≡ size)
-unfolding judgeLines
-judged-read t size = by (readText t) refl
-  where
-    by : (v : Verdict (List ℕ)) → readText t ≡ v → sizeIn (onward v (λ ws. passed (blockFrom ws))) ≡ passed size → (ws : List ℕ) × (readText t ≡ passed ws) × (length (blockFrom ws) ≡ size)
-    by (passed ws) is e = (ws, is, cc)
-    by (refused r) is e = absurd (never-passed e)
-
-refused-read : (t : List ℕ) (r : Answer) → judgeLines t ≡ refused r → readText t ≡ refused r
-unfolding judgeLines
-refused-read t r = by (readText t)
-  where
-    by : (v : Verdict (List ℕ)) → sizeIn (onward v (λ ws. passed (blockFrom ws))) ≡ refused r → v ≡ refused r
-    by (passed ws) e = absurd (never-passed (sym e))
-    by (refused s) e = let k : s ≡ r = cc in ap (λ x. refused x) k
 
 pub judged-exactly : JudgedExactly
 judged-exactly t = (λ size. (given size, taken size), λ r. (refused-read t r, λ e. sym (refusal-judged t e)))
@@ -103,7 +81,7 @@ judged-exactly t = (λ size. (given size, taken size), λ r. (refused-read t r, 
     given size e = let j = judged-read t size e in let i = texts-exactly t (j .0) .0 (j .1) in (i .0, i .1, sym (j .2) ∙ ap (λ ws. length (blockFrom ws)) (i .2))
 
     taken : (size : ℕ) → (rs : List (List ℕ)) × IsText t rs × (size ≡ length (blockOf rs)) → judgeLines t ≡ passed size
-    taken size i = size-judged t (joined (i .0)) (texts-exactly t (joined (i .0)) .1 (i .0, i .1, refl)) ∙ ap (λ k. passed k) (sym (i .2))
+    taken size i = read-judged t (joined (i .0)) (texts-exactly t (joined (i .0)) .1 (i .0, i .1, refl)) ∙ ap (λ k. passed k) (sym (i .2))
 
 -- ---- the size
 
@@ -122,7 +100,7 @@ module _ (text block after : List ℕ) (looked made : ℕ) (j : CedarJudgesLines
   -- what is said of the answer that was judged
   abbrev Said : Answer → Type 0
   Said a =
-      (a .n ≡ 0 → a .a ≤ length block → made ≡ looked)
+      (a .n ≡ 0 → a .a ≤ length block → (made ≡ looked) × Accepted (take (a .a) after) × (drop (a .a) after ≡ drop (a .a) block))
       × (a .n ≡ 0 → length block < a .a → Tells made (answer 29 (a .a) 0 0) × (after ≡ block))
       × ((a .n ≡ 0 → ⊥) → (made ≡ looked) × (after ≡ block))
 
@@ -130,11 +108,18 @@ module _ (text block after : List ℕ) (looked made : ℕ) (j : CedarJudgesLines
   same-number : {r : Answer} {out : List ℕ} → judgeLinesAnswer text ≡ r → writeBlock text block ≡ leaves r out → (made ≡ looked) × (after ≡ out)
   same-number e f = (ap (λ x. x .number) w ∙ ap (λ x. packedOf (x .answer)) f ∙ ap packedOf (sym e) ∙ sym j, ap (λ x. x .out) w ∙ ap (λ x. x .out) f)
 
+  -- what is written is a good block, and the bytes past it stay
+  good : (size : ℕ) → after ≡ writeBlock text block .out → (b : List ℕ) × (length b ≡ size) × (writeBlock text block ≡ wrote b block) → Accepted (take size after) × (drop size after ≡ drop size block)
+  good size out b =
+      let w = writeBlock text block in
+      let taken : take size after ≡ bytesIn w = ap (take size) out ∙ ap (λ k. take k (w .out)) (sym (b .1) ∙ ap (λ x. x .answer .a) (sym (b .2))) in
+      (subst Accepted (sym taken) (written-accepted text block (ap (λ x. x .answer .n) (b .2)) .1), ap (drop size) (out ∙ ap (λ x. x .out) (b .2)) ∙ drop-at (b .0) (drop (length (b .0)) block) size (b .1) ∙ ap (λ k. drop k block) (b .1))
+
   by-verdict : (v : Verdict ℕ) → judgeLines text ≡ v → Said (answered v)
   by-verdict (passed size) e =
       let holds = judged-then-written text block .0 in
       let told = cedar-block-tells text block after made w in (
-        λ _ room. let b = holds .0 size e room in same-number (ap answered e) (b .2 ∙ ap (λ k. leaves (answer 0 k 0 0) (b .0 ++ drop (length (b .0)) block)) (b .1)) .0,
+        λ _ room. let b = holds .0 size e room in let g = good size (told .1) b in (same-number (ap answered e) (b .2 ∙ ap (λ k. leaves (answer 0 k 0 0) (b .0 ++ drop (length (b .0)) block)) (b .1)) .0, g .0, g .1),
         λ _ short. let f = holds .1 size e short in (told .0 ∙ ap (λ x. x .answer) f, told .1 ∙ ap (λ x. x .out) f),
         λ n. absurd (n refl),
       )

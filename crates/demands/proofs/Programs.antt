@@ -8,7 +8,6 @@ use lib.ListN.{length, take}
 use lib.Seq.{length-sets}
 use Rattle.units.specs.declared.Answer.{Answer}
 use Rattle.units.specs.Answers.{Verdict, passed, refused, onward}
-use Rattle.units.proofs.Verdicts.{never-passed}
 use Rattle.words.specs.Words.{Below, blockFrom}
 use Rattle.words.specs.Outcomes.{written}
 use Rattle.words.proofs.Sealing.{slice-sets}
@@ -20,6 +19,7 @@ use Rattle.packing.specs.Packing.{repacked}
 use Rattle.write_lines.specs.Text.{textOf, toLines}
 use Rattle.read_records.specs.Reading.{readText}
 use Rattle.read_text.specs.Block.{judgeLines, writeBlock}
+use Rattle.read_text.proofs.Outcome.{judged-read, refused-read}
 use Rattle.repacking.specs.Repacking.{repack}
 use Rattle.report.specs.Text.{lineOf}
 use Rattle.report.specs.Decimal.{decimalOf}
@@ -50,14 +50,13 @@ pub blocks-written : BlocksWritten
 blocks-written blocks out = printed-written out (blocksPrinted blocks)
 
 pub tested-first : TestedFirst
-unfolding judgeLines
-tested-first text = by (readText text) refl
+tested-first text = (refusals, sizes)
   where
-    by : (v : Verdict (List ℕ)) → readText text ≡ v → let size = onward (onward v (λ ws. passed (blockFrom ws))) (λ b. passed (length b)) in let block = orRefusal blockFrom v in
-        let said = orRefusal (λ n. lineOf (decimalOf n ∷ [])) size in
-        ((r : Answer) → size ≡ refused r → (said ≡ refusalLine r) × (block ≡ refusalLine r)) × ((n : ℕ) → size ≡ passed n → (said ≡ lineOf (decimalOf n ∷ [])) × (length block ≡ n))
-    by (passed ws) e = (λ r f. absurd (never-passed (sym f)), λ n f. let k : length (blockFrom ws) ≡ n = cc in (ap (λ m. lineOf (decimalOf m ∷ [])) k, k))
-    by (refused s) e = (λ r f. let k : s ≡ r = cc in (ap refusalLine k, ap refusalLine k), λ n f. absurd (never-passed f))
+    refusals : (r : Answer) → judgeLines text ≡ refused r → (sizePrinted text ≡ refusalLine r) × (blockPrinted text ≡ refusalLine r)
+    refusals r e = (ap (orRefusal (λ n. lineOf (decimalOf n ∷ []))) e, ap (orRefusal blockFrom) (refused-read text r e))
+
+    sizes : (size : ℕ) → judgeLines text ≡ passed size → (sizePrinted text ≡ lineOf (decimalOf size ∷ [])) × (length (blockPrinted text) ≡ size)
+    sizes size e = let j = judged-read text size e in (ap (orRefusal (λ n. lineOf (decimalOf n ∷ []))) e, ap (λ v. length (orRefusal blockFrom v)) (j .1) ∙ j .2)
 
 -- ---- what the calls give
 

@@ -21,8 +21,8 @@ use Rattle.block.proofs.Exact.{only-good, ok-long}
 use Rattle.read_cut.specs.Lines.{onto, endLength, linesIn}
 use Rattle.read_records.specs.Spelled.{PlainByte, Readable}
 use Rattle.read_text.specs.Block.{judgeLines}
+use Rattle.read_text.proofs.Outcome.{judged-read}
 use Rattle.demands.specs.LookBeforeYouWrite.{NotOfText, before-tab, after-lf, after-cr, TakenFor}
-use Rattle.demands.proofs.LookBeforeYouWrite.{judged-read}
 use Rattle.demands.proofs.Sound.{its-text}
 
 -- ---- a block

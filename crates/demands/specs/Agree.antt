@@ -129,7 +129,7 @@ CedarRepackAgrees = (blocks out : List ℕ) → FixesOne (CedarRepacks blocks ou
 
 -- ---- what the programs print
 
--- `printed::print_listing`
+-- `listed::print_listing`
 abbrev pub PrintedListingAgrees : Type 0
 PrintedListingAgrees = (block out : List ℕ) → FixesOne (PrintsListing block out)
 

@@ -4,7 +4,7 @@ use mathlib.Core.Logic.{_↔_, _⊎_}
 use mathlib.Core.Path.{_≡_}
 use mathlib.Core.List.{List}
 use Prim.Native.Nat.{ℕ, _%_, _≤_, _<_}
-use lib.ListN.{length, getD}
+use lib.ListN.{length, getD, take, drop}
 use Rattle.units.specs.declared.Answer.{Answer}
 use Rattle.units.specs.Answers.{answer, passed, refused, takenApart}
 use Rattle.words.specs.Words.{All, Below}
@@ -46,24 +46,24 @@ JudgedThenWritten = (t out : List ℕ) → JudgedHolds t out × WrittenHolds t o
 abbrev pub SizeOfABlock : Type 0
 SizeOfABlock = (t : List ℕ) (size : ℕ) → judgeLines t ≡ passed size → (36 ≤ size) × (size ≤ 16000) × (size % 2 ≡ 0)
 
--- for C: writing returns the number that judging returned, but for 29 with the same size where the block is shorter than that; what is refused leaves the block
+-- for C: writing returns the number that judging returned, and so many bytes that are a good block, and the others stay; or 29 with the same size where the block is shorter than that. What is refused leaves the block
 abbrev pub CedarJudgedThenWritten : Type 0
 CedarJudgedThenWritten =
     (text block after : List ℕ) (judged written : ℕ) → CedarJudgesLines text judged → CedarWritesBlock text block written after →
     let size = takenApart judged .a in
-    (takenApart judged .n ≡ 0 → size ≤ length block → written ≡ judged)
+    (takenApart judged .n ≡ 0 → size ≤ length block → (written ≡ judged) × Accepted (take size after) × (drop size after ≡ drop size block))
     × (takenApart judged .n ≡ 0 → length block < size → Tells written (answer 29 size 0 0) × (after ≡ block))
     × ((takenApart judged .n ≡ 0 → ⊥) → (written ≡ judged) × (after ≡ block))
 
 -- ---- `cedar check`, which takes a file as a block or as lines by its first six bytes
 
--- a byte that no text has: a control character but TAB, LF and CR
+-- a control character other than TAB, LF and CR: no accepted text has one
 pub data NotOfText (x : ℕ) : Type 0 where
   before-tab : x < 9 → NotOfText x
   after-lf : 11 ≤ x → x ≤ 12 → NotOfText x
   after-cr : 14 ≤ x → x ≤ 31 → NotOfText x
 
--- the fifth byte of an accepted block is one, and there is none in an accepted text: so each is taken for what it is, and nothing is both
+-- the fifth byte of an accepted block is one, and an accepted text has none: so each is taken for what it is, and nothing is both
 abbrev pub TakenFor : Type 0
 TakenFor =
     ((b : List ℕ) → Below 256 b → Accepted b → (5 ≤ length b) × NotOfText (getD b 4 0))

@@ -48,7 +48,7 @@ TestedFirst =
     ((r : Answer) → judgeLines text ≡ refused r → (sizePrinted text ≡ refusalLine r) × (blockPrinted text ≡ refusalLine r))
     × ((size : ℕ) → judgeLines text ≡ passed size → (sizePrinted text ≡ lineOf (decimalOf size ∷ [])) × (length (blockPrinted text) ≡ size))
 
--- ---- and that is what the call of the same name gives, into an output that has always room
+-- ---- and that is what the program's call gives, into an output that has always room
 
 -- the bytes that a call has written, or the line of its refusal
 abbrev pub printedOf : Written → List ℕ

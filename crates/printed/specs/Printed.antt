@@ -1,4 +1,4 @@
--- What the other programs print: the text of a block, the size of a text's block or the block itself, or blocks packed again; or, as the listing has it, the line of a refusal.
+-- What the programs print, but for the listing: the text of a block, the size of a text's block or the block itself, or blocks packed again; or, as the listing has it, the line of a refusal.
 use Prim.Native.Nat.{ℕ, _≤_}
 use mathlib.Core.Path.{_≡_}
 use mathlib.Core.List.{List, [], _∷_}

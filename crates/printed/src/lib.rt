@@ -1,4 +1,4 @@
-// What the other programs print: the lines of a block, the size of a text's block or the block itself, blocks packed again; or the line of a refusal.
+// What the programs print, but for the listing: the lines of a block, the size of a text's block or the block itself, blocks packed again; or the line of a refusal.
 use block::Judged;
 use units::Answer;
 use units::Bytes;
@@ -15,7 +15,7 @@ ghost use Rattle.printed.specs.Promises.{PrintsLines, PrintsSize, Prints
 // Bytes that suffice for the lines of any block.
 pub const TEXT_BYTES: usize = 55971;
 
-// For the size of any text's block.
+// For the size of any text's block, or the line of any refusal.
 pub const SIZE_BYTES: usize = 52;
 
 // For any block.

@@ -34,20 +34,37 @@ pub record HasWords (t : List ℕ) (n : ℕ) : Type 0 where
 pub words-most : (t : List ℕ) (n : ℕ) → HasWords t n → n ≤ mostRecordWords
 words-most t n a = omega (arith, a .count, words-room t (a .records) (a .is))
 
--- ---- judging
+-- ---- judging goes by the reading
+
+module _ (t : List ℕ) where
+  pub read-judged : (ws : List ℕ) → readText t ≡ passed ws → judgeLines t ≡ passed (length (blockFrom ws))
+  unfolding judgeLines
+  read-judged ws e = rw e
+
+  -- and back
+  pub judged-read : (size : ℕ) → judgeLines t ≡ passed size → (ws : List ℕ) × (readText t ≡ passed ws) × (length (blockFrom ws) ≡ size)
+  unfolding judgeLines
+  judged-read size = by (readText t) refl
+    where
+      by : (v : Verdict (List ℕ)) → readText t ≡ v → onward (onward v (λ ws. passed (blockFrom ws))) (λ b. passed (length b)) ≡ passed size
+          → (ws : List ℕ) × (readText t ≡ passed ws) × (length (blockFrom ws) ≡ size)
+      by (passed ws) is e = (ws, is, cc)
+      by (refused r) is e = absurd (never-passed e)
+
+  pub refused-read : (r : Answer) → judgeLines t ≡ refused r → readText t ≡ refused r
+  unfolding judgeLines
+  refused-read r = by (readText t)
+    where
+      by : (v : Verdict (List ℕ)) → onward (onward v (λ ws. passed (blockFrom ws))) (λ b. passed (length b)) ≡ refused r → v ≡ refused r
+      by (passed ws) e = absurd (never-passed (sym e))
+      by (refused s) e = let k : s ≡ r = cc in ap (λ x. refused x) k
 
 -- its size is judged from that count, and tells it
 pub size-judged : (t : List ℕ) (n : ℕ) {size : ℕ} → HasWords t n → size ≡ bytesOfWords (n + 2) → passed size ≡ judgeLines t
-unfolding judgeLines
-size-judged t n a e = rw (a .is) (ap (λ k. passed k) (omega (arith, length-framed (a .records), a .count)))
+size-judged t n a e = ap (λ k. passed k) (omega (arith, length-framed (a .records), a .count)) ∙ sym (read-judged t (a .records) (a .is))
 
 pub size-tells : (t : List ℕ) (n : ℕ) → judgeLines t ≡ passed (bytesOfWords (n + 2)) → HasWords t n
-unfolding judgeLines
-size-tells t n = by (readText t) refl
-  where
-    by : (v : Verdict (List ℕ)) → readText t ≡ v → onward (onward v (λ ws. passed (blockFrom ws))) (λ b. passed (length b)) ≡ passed (bytesOfWords (n + 2)) → HasWords t n
-    by (passed ws) is same = let k : length (blockFrom ws) ≡ bytesOfWords (n + 2) = cc in record { records = ws; is = is; count = omega (arith, length-framed ws) }
-    by (refused r) is same = absurd (never-passed same)
+size-tells t n e = let j = judged-read t (bytesOfWords (n + 2)) e in record { records = j .0; is = j .1; count = omega (arith, j .2, length-framed (j .0)) }
 
 -- a refusal is judged as it is
 pub refusal-judged : (t : List ℕ) {r : Answer} → readText t ≡ refused r → refused r ≡ judgeLines t

@@ -44,8 +44,8 @@ pub fn judge_lines(text: &[u8]) -> Judged
     match read_records::read(text, &mut nothing) {
         Content::Flawed(f) => Judged::Flawed(f),
         Content::RecordWords(n) => {
-            let size = block_size(n).0;
-            Judged::Size(Bytes(size))
+            let size = block_size(n);
+            Judged::Size(size)
         }
     }
 }
