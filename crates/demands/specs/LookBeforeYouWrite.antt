@@ -18,7 +18,7 @@ use Rattle.demands.specs.Demand1.{Tells}
 use Rattle.demands.specs.Demand2.{wrote}
 use Rattle.demands.specs.Texts.{IsText}
 
--- judging accepts exactly the texts of good records, with the size of their block; what refuses the reading is the refusal
+-- "one call judges the text": it accepts exactly the texts of good records, with the size of their block, and refuses what the reading refuses
 abbrev pub JudgedExactly : Type 0
 JudgedExactly =
     (t : List ℕ) →
