@@ -12,7 +12,7 @@ use Rattle.units.specs.Choice.{if_then_else_}
 use Rattle.units.specs.Answers.{answer, Verdict, passed, refused, onward, answered, takenApart, Packs}
 use Rattle.units.proofs.Packing.{taken-apart}
 use Rattle.units.proofs.Verdicts.{and-on, never-passed}
-use Rattle.words.specs.Words.{All, Below, blockFrom}
+use Rattle.words.specs.Words.{All, Below}
 use Rattle.words.specs.Outcomes.{Written, written, leaves}
 use Rattle.words.proofs.Writing.{written-either}
 use Rattle.block.specs.Cases.{BlockRow}
@@ -26,8 +26,7 @@ use Rattle.prefix.specs.LookUp.{beside}
 use Rattle.prefix.specs.Table.{table, dashes, prefixOf, answerOf}
 use Rattle.cedar.specs.Calls.{returned, converted, returnedBoth, amendedBoth}
 use Rattle.read_records.specs.Cases.{TextRow}
-use Rattle.read_records.specs.Reading.{readText}
-use Rattle.read_text.specs.Block.{judgeLines, writeBlock}
+use Rattle.read_text.specs.Block.{blockIn, judgeLines, writeBlock}
 use Rattle.read_text.proofs.Known.{size-known, answer-told}
 use Rattle.demands.specs.Demand1.{Unpacks, Judgement, JudgeAnswers, PrefixAnswers, LinesAnswers, JudgeLinesAnswers, BlockAnswers, RepackAnswers, Writes, SheetRow, OpenAnswers, StartAnswers, BothAnswer, AmendRow, AmendAnswers, UndoRow, UndoAnswers, CedarJudgeTells, CedarPrefixTells, TellsWritten, CedarLinesTell, CedarJudgeLinesTells, CedarBlockTells, CedarStartTells, CedarRepackTells, TellsBoth, CedarAmendTells, CedarUndoTells}
 use Rattle.units.specs.declared.Answer.{Answer}
@@ -126,7 +125,7 @@ pub block-answers : BlockAnswers
 unfolding writeBlock
 block-answers text block =
     let t = answer-told text block in
-    ((t .listed, taken-apart (writeBlock text block .answer) (t .packs)), kept 29 block (onward (readText text) (λ ws. passed (blockFrom ws))))
+    ((t .listed, taken-apart (writeBlock text block .answer) (t .packs)), kept 29 block (blockIn text))
 
 -- ---- the calls on a sheet, and on a block and its sheet: rows 40 to 46
 
