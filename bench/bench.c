@@ -3,7 +3,6 @@
  *
  *   bench                       times, and the stack that each call takes
  *   bench names                 the names of the tasks
- *   bench bytes                 these, with the bytes of the block's blocked lines
  *   bench WHOSE TASK CALLS      only makes so many calls, to have their instructions counted from outside
  */
 #define _DEFAULT_SOURCE
@@ -24,8 +23,8 @@
 /* The calls through pointers, so that the compiler can take none of them out of a loop. */
 struct calls {
     const char *whose;
-    judging *judge, *judge_lines, *judge_blocked;
-    conversion *to_lines, *write_block, *to_blocked, *write_from_blocked, *repack;
+    judging *judge, *judge_lines;
+    conversion *to_lines, *write_block, *repack;
     uint64_t (*prefix)(uint16_t);
     starting *start;
     amending *amend;
@@ -74,21 +73,19 @@ enum { LIBRARY, REFERENCE, NOTHING, SETS };
 
 /* The last ones cost what it costs to make a call. */
 static const struct calls sets[SETS] = {
-    {"library", cedar_judge, cedar_judge_lines, cedar_judge_blocked_lines, cedar_to_lines, cedar_write_block,
-     cedar_to_blocked_lines, cedar_write_block_from_blocked, cedar_repack, cedar_prefix, cedar_sheet_start, cedar_amend,
-     cedar_undo},
-    {"reference", reference_judge, reference_judge_lines, reference_judge_blocked_lines, reference_to_lines,
-     reference_write_block, reference_to_blocked_lines, reference_write_block_from_blocked, reference_repack,
+    {"library", cedar_judge, cedar_judge_lines, cedar_to_lines, cedar_write_block, cedar_repack, cedar_prefix,
+     cedar_sheet_start, cedar_amend, cedar_undo},
+    {"reference", reference_judge, reference_judge_lines, reference_to_lines, reference_write_block, reference_repack,
      reference_prefix, reference_sheet_start, reference_amend, reference_undo},
-    {"nothing", judge_nothing, judge_nothing, judge_nothing, convert_nothing, convert_nothing, convert_nothing,
-     convert_nothing, convert_nothing, prefix_nothing, start_nothing, amend_nothing, undo_nothing},
+    {"nothing", judge_nothing, judge_nothing, convert_nothing, convert_nothing, convert_nothing, prefix_nothing,
+     start_nothing, amend_nothing, undo_nothing},
 };
 
 static struct block block;
 
 /* Every call writes over the output of the one before it: nothing clears it. */
-static uint8_t text[CEDAR_TEXT_MOST], blocked[CEDAR_BLOCKED_MOST];
-static size_t text_length, blocked_length;
+static uint8_t text[CEDAR_TEXT_MOST];
+static size_t text_length;
 
 /* The block of these lines. */
 static uint8_t written[CEDAR_BLOCK_MOST];
@@ -111,11 +108,12 @@ static void build_data(void)
     block_of_most_data(&block);
 }
 
-/* Values of both signs and of 1 to 5 digits. */
-static void fill_values(uint8_t *record)
+/* The longest text, with values of both signs and of 1 to 5 digits. */
+static void build_values(void)
 {
     static const unsigned tens[] = {10, 100, 1000, 10000, 32768};
     struct chance chance = {1};
+    uint8_t *record = block_of_most_data(&block);
 
     for (size_t number = NROW + 1; number <= word_at(record, 1); number++) {
         int value = (int)(draw(&chance) % PICK(&chance, tens));
@@ -123,24 +121,6 @@ static void fill_values(uint8_t *record)
         put_word(record, number, (uint16_t)(one_in(&chance, 2) ? value : -value));
     }
     block_seal(&block);
-}
-
-/* The longest text. */
-static void build_values(void)
-{
-    fill_values(block_of_most_data(&block));
-}
-
-/* Half its lines. */
-static void build_half(void)
-{
-    struct counts half = {PROLOGUE_LEAST, 0, 1, 3989};
-    uint8_t *record;
-
-    block_begin(&block);
-    record = block_add_data(&block, half);
-    block_close(&block);
-    fill_values(record);
 }
 
 static void build_catalogue(void)
@@ -197,16 +177,11 @@ static void build_night(void)
         slice_add(&slice, &block);
 }
 
-/* Records of 304 words, 30 heights with 8 values each: as many as a block takes, and those in half-empty blocks. */
-static const struct counts usual = {PROLOGUE_LEAST, 20, 8, 30};
-
-static void build_heights(void)
-{
-    build_equal(usual, BLOCK_MOST);
-}
-
+/* Records of 304 words, 30 heights with 8 values each, in half-empty blocks. */
 static void build_half_empty(void)
 {
+    struct counts usual = {PROLOGUE_LEAST, 20, 8, 30};
+
     build_equal(usual, BLOCK_MOST / 2);
     build_night();
 }
@@ -295,45 +270,6 @@ static uint64_t look_and_write(const struct calls *calls)
     return calls->write_block(text, text_length, written, cedar_a(judge_lines(calls)));
 }
 
-static uint64_t to_blocked(const struct calls *calls)
-{
-    return calls->to_blocked(block.bytes, block.length, blocked, sizeof blocked);
-}
-
-/* Refusal 29. */
-static uint64_t to_no_blocked(const struct calls *calls)
-{
-    return calls->to_blocked(block.bytes, block.length, blocked, 0);
-}
-
-static uint64_t judge_blocked(const struct calls *calls)
-{
-    return calls->judge_blocked(blocked, blocked_length);
-}
-
-/* Refusal 25: the last line lacks. */
-static uint64_t judge_cut_blocked(const struct calls *calls)
-{
-    return calls->judge_blocked(blocked, blocked_length - LINE_COLUMNS);
-}
-
-/* Refusal 60. */
-static uint64_t judge_uneven_blocked(const struct calls *calls)
-{
-    return calls->judge_blocked(blocked, blocked_length - 1);
-}
-
-static uint64_t write_from_blocked(const struct calls *calls)
-{
-    return calls->write_from_blocked(blocked, blocked_length, written, sizeof written);
-}
-
-/* Refusal 29. */
-static uint64_t write_none_from_blocked(const struct calls *calls)
-{
-    return calls->write_from_blocked(blocked, blocked_length, written, 0);
-}
-
 static uint64_t repack(const struct calls *calls)
 {
     return calls->repack(slice.bytes, slice.length, repacked, sizeof repacked);
@@ -411,28 +347,6 @@ static const struct task {
     {"look-write-catalogue", build_catalogue, look_and_write, 0},
     {"look-write-records", build_records, look_and_write, 0},
     {"look-write-k", build_k, look_and_write, 0},
-    {"blocked-data", build_values, to_blocked, 0},
-    {"blocked-half", build_half, to_blocked, 0},
-    {"blocked-heights", build_heights, to_blocked, 0},
-    {"blocked-catalogue", build_catalogue, to_blocked, 0},
-    {"blocked-records", build_records, to_blocked, 0},
-    {"blocked-k", build_k, to_blocked, 0},
-    {"blocked-no-room", build_data, to_no_blocked, 29},
-    {"judge-blocked-data", build_values, judge_blocked, 0},
-    {"judge-blocked-half", build_half, judge_blocked, 0},
-    {"judge-blocked-heights", build_heights, judge_blocked, 0},
-    {"judge-blocked-catalogue", build_catalogue, judge_blocked, 0},
-    {"judge-blocked-records", build_records, judge_blocked, 0},
-    {"judge-blocked-k", build_k, judge_blocked, 0},
-    {"judge-blocked-cut", build_heights, judge_cut_blocked, 25},
-    {"judge-blocked-uneven", build_heights, judge_uneven_blocked, 60},
-    {"write-blocked-data", build_values, write_from_blocked, 0},
-    {"write-blocked-half", build_half, write_from_blocked, 0},
-    {"write-blocked-heights", build_heights, write_from_blocked, 0},
-    {"write-blocked-catalogue", build_catalogue, write_from_blocked, 0},
-    {"write-blocked-records", build_records, write_from_blocked, 0},
-    {"write-blocked-k", build_k, write_from_blocked, 0},
-    {"write-blocked-no-room", build_heights, write_none_from_blocked, 29},
     {"repack-half-empty", build_half_empty, repack, 0},
     {"repack-small-blocks", build_small_blocks, repack, 0},
     {"repack-cards", build_card_blocks, repack, 0},
@@ -465,7 +379,6 @@ static void prepare(const struct task *task)
 {
     task->build();
     text_length = cedar_a(reference_to_lines(block.bytes, block.length, text, sizeof text));
-    blocked_length = cedar_a(reference_to_blocked_lines(block.bytes, block.length, blocked, sizeof blocked));
     if (block.records > 0)
         prepare_sheet();
 }
@@ -595,11 +508,6 @@ static void print_names(const struct task *task)
     printf("%s\n", task->name);
 }
 
-static void print_bytes(const struct task *task)
-{
-    printf("%s %zu\n", task->name, blocked_length);
-}
-
 static void for_all(void (*act)(const struct task *))
 {
     for (size_t i = 0; i < TASKS; i++) {
@@ -627,8 +535,8 @@ int main(int argc, char **argv)
 {
     if (argc == 4)
         return make_named_calls(argv[1], argv[2], strtoul(argv[3], NULL, 10));
-    if (argc == 2) {
-        for_all(strcmp(argv[1], "bytes") == 0 ? print_bytes : print_names);
+    if (argc == 2 && strcmp(argv[1], "names") == 0) {
+        for_all(print_names);
         return 0;
     }
     for_all(check_answer);

@@ -4,13 +4,11 @@
 
 #include <errno.h>
 #include <stdio.h>
-#include <stdlib.h>
 
 #include "cedar.h"
 
 /* One byte more than the largest block, text or slice of blocks has, so that a longer file is refused as well. */
-enum { BLOCK_ROOM = CEDAR_BLOCK_MOST + 1, TEXT_ROOM = CEDAR_READ_MOST + 1, BLOCKED_ROOM = CEDAR_BLOCKED_READ_MOST + 1 };
-enum { SLICE_ROOM = CEDAR_REPACK_MOST + 1 };
+enum { BLOCK_ROOM = CEDAR_BLOCK_MOST + 1, TEXT_ROOM = CEDAR_READ_MOST + 1, SLICE_ROOM = CEDAR_REPACK_MOST + 1 };
 
 /* The number of bytes read, at most `room`, or -1, with the reason in errno, if the file cannot be read. */
 static inline long read_file(const char *name, uint8_t *bytes, size_t room)
@@ -51,38 +49,15 @@ static inline void print_answer(FILE *stream, uint64_t answer)
             (unsigned)cedar_b(answer), (unsigned)cedar_c(answer));
 }
 
-/* Says why something was refused; gives the program's status. */
-static inline int finish_refused(uint64_t answer)
-{
-    print_answer(stderr, answer);
-    return 1;
-}
-
 /* Writes what a conversion left in `output`, or says why it was refused; gives the program's status. */
 static inline int finish_conversion(uint64_t answer, const uint8_t *output)
 {
-    if (cedar_n(answer) != 0)
-        return finish_refused(answer);
+    if (cedar_n(answer) != 0) {
+        print_answer(stderr, answer);
+        return 1;
+    }
     /* The bytes may get no further than a buffer until they are flushed. */
     return fwrite(output, 1, cedar_a(answer), stdout) == cedar_a(answer) && fflush(stdout) == 0 ? 0 : 2;
-}
-
-/* A call that writes one buffer from another. */
-typedef uint64_t conversion(const uint8_t *input, size_t input_length, uint8_t *output, size_t output_length);
-
-/* Converts the input in a buffer of just the bytes that are needed, and finishes so. */
-static inline int convert(conversion *call, const uint8_t *input, size_t length, size_t needed)
-{
-    uint8_t *output = malloc(needed);
-    int status;
-
-    if (output == NULL) {
-        fprintf(stderr, "no memory for %u bytes\n", (unsigned)needed);
-        return 2;
-    }
-    status = finish_conversion(call(input, length, output, needed), output);
-    free(output);
-    return status;
 }
 
 #endif

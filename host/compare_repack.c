@@ -8,16 +8,28 @@
 #include "generate_slice.h"
 #include "minimum.h"
 
+static uint64_t make_repack(const struct trial *trial)
+{
+    const struct lent *blocks = &trial->lent[0], *out = &trial->lent[1];
+
+    return cedar_repack(blocks->copy, blocks->length, out->copy, out->length);
+}
+
 /* A block's own 2 cannot be: the block is as long as its first word says. */
 #define REPACK_ANSWERS ((BLOCK_ANSWERS & ~ANSWER(2)) | ANSWER(50) | ANSWER(51) | ANSWER(52))
 
-static struct call repack = CONVERSION("repack", cedar_repack, REPACK_ANSWERS);
+static struct call repack = {"repack", make_repack, 2, 0, REPACK_ANSWERS, {0}};
+
+static struct lent lend_slice(const struct slice *slice)
+{
+    struct lent lent = {"slice", slice->length, slice->bytes, slice->bytes, NULL, FIRST_BYTES};
+
+    return lent;
+}
 
 static void compare_length(struct trials *trials, struct chance *chance, const struct slice *slice, size_t length)
 {
-    struct lent input = lend("slice", slice->bytes, slice->length, FIRST_BYTES);
-
-    compare_output(trials, chance, &repack, reference_repack, input, length);
+    compare_output(trials, chance, &repack, reference_repack, lend_slice(slice), length);
 }
 
 /* Outputs about as long as the slice needs; a slice that is refused, or needs none, gets one of any length. */

@@ -34,10 +34,9 @@ static uint64_t make_undo(const struct trial *trial)
     return cedar_undo(block->copy, block->length, sheet->copy, sheet->length);
 }
 
-static struct call start = {.name = "start", .make = make_start, .buffers = 1, .gives = ANSWER(0) | ANSWER(40)};
-static struct call amend = {
-    .name = "amend", .make = make_amend, .buffers = 2, .numbers = 4, .gives = BLOCK_ANSWERS | AMEND_ANSWERS};
-static struct call undo = {.name = "undo", .make = make_undo, .buffers = 2, .gives = BLOCK_ANSWERS | UNDO_ANSWERS};
+static struct call start = {"start", make_start, 1, 0, ANSWER(0) | ANSWER(40), {0}};
+static struct call amend = {"amend", make_amend, 2, 4, BLOCK_ANSWERS | AMEND_ANSWERS, {0}};
+static struct call undo = {"undo", make_undo, 2, 0, BLOCK_ANSWERS | UNDO_ANSWERS, {0}};
 
 /* What is lent to amend and undo. */
 struct both {

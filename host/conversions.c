@@ -4,18 +4,6 @@
 
 #include "cedar.h"
 
-uint64_t make_judging(const struct trial *trial)
-{
-    return trial->call->judge(trial->lent[0].copy, trial->lent[0].length);
-}
-
-uint64_t make_conversion(const struct trial *trial)
-{
-    const struct lent *input = &trial->lent[0], *output = &trial->lent[1];
-
-    return trial->call->convert(input->copy, input->length, output->copy, output->length);
-}
-
 /* Bytes by chance, drawn once; each output finds those from another start on. */
 enum { STARTS = 4096 };
 

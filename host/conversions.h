@@ -1,23 +1,14 @@
-/* Calls that judge a buffer, or write one buffer from another, compared with the reference's. */
+/* Calls that write one buffer from another, compared with the reference's. */
 #ifndef CONVERSIONS_H
 #define CONVERSIONS_H
 
+#include "blocks.h"
 #include "chance.h"
-#include "page.h"
 #include "reference.h"
 #include "trial.h"
 
-/* Bytes of the largest buffer that is lent; blocks, sheets and slices have less room. */
-enum { LENT_ROOM = TEXT_ROOM };
-
-/* Such a call of the library, with the answers that it can give. */
-#define JUDGING(named, library, answers) \
-    {.name = (named), .make = make_judging, .judge = (library), .buffers = 1, .gives = (answers)}
-#define CONVERSION(named, library, answers) \
-    {.name = (named), .make = make_conversion, .convert = (library), .buffers = 2, .gives = (answers)}
-
-uint64_t make_judging(const struct trial *trial);
-uint64_t make_conversion(const struct trial *trial);
+/* Bytes of the largest buffer that is lent; texts, sheets and slices have less room. */
+enum { LENT_ROOM = BLOCK_ROOM };
 
 /* Draws what the outputs hold before they are written; once, before all trials. */
 void draw_noise(void);

@@ -28,9 +28,6 @@ enum { FIELD_COLUMNS = 6, CARD_COLUMNS = 80, LINE_FIELDS = 20 };
 /* At most: columns of a line, lines of a Catalogue or Header, words of a block's records, bytes of a text. */
 enum { LINE_COLUMNS = FIELD_COLUMNS * LINE_FIELDS, CARDS_LINES = 199, WORDS_MOST = BLOCK_MOST - 2, TEXT_MOST = 65536 };
 
-/* Bytes of the longest blocked text. */
-enum { BLOCKED_MOST = 960000 };
-
 /* Bytes of a sheet before its version, count, zero byte and entries, of all of it, and of an entry. */
 enum { BEFORE_VERSION = 3, BEFORE_COUNT = 5, BEFORE_ZERO = 7, BEFORE_ENTRIES = 8, SHEET_BYTES = 520, ENTRY_BYTES = 8 };
 

@@ -48,7 +48,7 @@ static void write_most(struct chance *chance, struct page *page)
 }
 
 /* One text in many is as large as a text can be; they take most of the time. */
-void generate_page(struct chance *chance, struct page *page)
+static void write_any(struct chance *chance, struct page *page)
 {
     static void (*const recipes[])(struct chance *, struct page *) = {
         write_standard, write_spelled, write_spelled, spoil_once,  spoil_once,  spoil_once,
@@ -61,17 +61,17 @@ void generate_page(struct chance *chance, struct page *page)
         PICK(chance, recipes)(chance, page);
 }
 
-static void print_any(struct chance *chance, const struct layout *layout, struct text *text)
+static void print_any(struct chance *chance, struct text *text)
 {
     static struct page page;
 
-    generate_page(chance, &page);
-    page_print(&page, layout, text);
+    write_any(chance, &page);
+    page_print(&page, text);
 }
 
-static void print_spoilt(struct chance *chance, const struct layout *layout, struct text *text)
+static void print_spoilt(struct chance *chance, struct text *text)
 {
-    print_any(chance, layout, text);
+    print_any(chance, text);
     do
         spoil_text(chance, text);
     while (one_in(chance, 3));
@@ -99,7 +99,7 @@ static void print_filled(struct chance *chance, struct text *text)
     if (one_in(chance, 4))
         print_bytes(chance, text, 2);
     else
-        print_any(chance, &unblocked_layout, text);
+        print_any(chance, text);
     length = one_in(chance, 4) ? TEXT_MOST + text->length : between(chance, TEXT_MOST - 1, TEXT_MOST + 1);
     if (length <= TEXT_ROOM)
         fill_text(chance, text, length);
@@ -116,53 +116,7 @@ void generate_text(struct chance *chance, uint64_t number, struct text *text)
     else if (number % BYTES == 1)
         print_bytes(chance, text, one_in(chance, 8) ? 2000 : 150);
     else if (number % SPOILT == 2)
-        print_spoilt(chance, &unblocked_layout, text);
+        print_spoilt(chance, text);
     else
-        print_any(chance, &unblocked_layout, text);
-}
-
-/* Blocked as somebody might who does not know the form: lines too short or too long, their ends kept, other filling. */
-static void block_wrongly(struct chance *chance, struct text *text)
-{
-    static const struct layout layouts[] = {
-        {119, ' ', false, "", false},   {121, ' ', false, "", false},     {120, ' ', false, "\n", false},
-        {119, ' ', false, "\n", false}, {120, ' ', false, "\r\n", false}, {118, ' ', false, "\r\n", false},
-        {120, ' ', true, "", false},    {120, '\0', false, "", false},    {120, '\n', false, "", false},
-        {120, '\t', false, "", false},  {120, '0', false, "", false},     {120, ' ', false, "", true},
-        {80, ' ', false, "", false},    {0, ' ', true, "", false},        {0, ' ', false, "", false},
-    };
-
-    print_any(chance, &PICK(chance, layouts), text);
-}
-
-/* About as long as a text may be that is blocked, or one that is not. */
-static void fill_blocked(struct chance *chance, struct text *text)
-{
-    static const size_t mosts[] = {TEXT_MOST - TEXT_MOST % LINE_COLUMNS, BLOCKED_MOST, BLOCKED_MOST};
-    size_t most = PICK(chance, mosts);
-    const size_t lengths[] = {most - LINE_COLUMNS, most - 1, most, most, most + 1, most + LINE_COLUMNS};
-
-    print_any(chance, &blocked_layout, text);
-    fill_with_blanks(chance, text, PICK(chance, lengths));
-    if (one_in(chance, 4))
-        spoil_text(chance, text);
-}
-
-void generate_blocked(struct chance *chance, uint64_t number, struct text *text)
-{
-    enum { FILLED = 100, BYTES = 20, WRONGLY = 10, SPOILT = 5 };
-
-    if (number % FILLED == 0)
-        fill_blocked(chance, text);
-    else if (number % BYTES == 1)
-        print_bytes(chance, text, one_in(chance, 8) ? 2000 : 2 * LINE_COLUMNS);
-    else if (number % WRONGLY == 3)
-        block_wrongly(chance, text);
-    else if (number % SPOILT == 2)
-        print_spoilt(chance, &blocked_layout, text);
-    else
-        print_any(chance, &blocked_layout, text);
-    /* Else a text of which the length is wrong shows no other fault. */
-    if (!one_in(chance, 3))
-        square_text(chance, text);
+        print_any(chance, text);
 }

@@ -105,52 +105,15 @@ void page_remove(struct page *page, size_t at)
     memmove(&page->line[at], &page->line[at + 1], (page->lines - at) * sizeof page->line[at]);
 }
 
-const struct layout unblocked_layout = {.ends = true, .after = ""};
-const struct layout blocked_layout = {.columns = LINE_COLUMNS, .filling = ' ', .after = ""};
-
-static void add_bytes(struct text *text, const void *bytes, size_t count)
+void page_print(const struct page *page, struct text *text)
 {
-    memcpy(text->bytes + text->length, bytes, count);
-    text->length += count;
-}
-
-static void print_line(const struct line *line, const struct layout *layout, bool filled, struct text *text)
-{
-    size_t end = text->length + layout->columns;
-
-    add_bytes(text, line->bytes, line->columns);
-    if (layout->ends)
-        add_bytes(text, line->end, strlen(line->end));
-    if (filled && text->length < end)
-        memset(text->bytes + text->length, layout->filling, end - text->length);
-    if (layout->columns > 0 && (filled || text->length > end))
-        text->length = end;
-    add_bytes(text, layout->after, strlen(layout->after));
-}
-
-void page_print(const struct page *page, const struct layout *layout, struct text *text)
-{
-    enum { ENDS_ROOM = 8 };
-
     text->length = 0;
-    for (size_t i = 0; i < page->lines && text->length + LINE_ROOM + ENDS_ROOM <= TEXT_ROOM; i++)
-        print_line(&page->line[i], layout, !layout->last_short || i + 1 < page->lines, text);
-}
+    for (size_t i = 0; i < page->lines && text->length + LINE_ROOM + 2 <= TEXT_ROOM; i++) {
+        const struct line *line = &page->line[i];
 
-static void settle_line(struct line *line)
-{
-    size_t columns = line->columns < LINE_COLUMNS ? line->columns : LINE_COLUMNS;
-
-    for (size_t column = 1; column <= columns; column++)
-        if (line->bytes[column - 1] == '\n' || (line->bytes[column - 1] == '\r' && column == columns))
-            line->bytes[column - 1] = '\t';
-    line->columns = columns;
-    if (strcmp(line->end, "\r\n") != 0)
-        line->end = "\n";
-}
-
-void page_settle(struct page *page)
-{
-    for (size_t i = 0; i < page->lines; i++)
-        settle_line(&page->line[i]);
+        memcpy(text->bytes + text->length, line->bytes, line->columns);
+        text->length += line->columns;
+        memcpy(text->bytes + text->length, line->end, strlen(line->end));
+        text->length += strlen(line->end);
+    }
 }

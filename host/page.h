@@ -2,15 +2,14 @@
 #ifndef PAGE_H
 #define PAGE_H
 
-#include <stdbool.h>
 #include <stddef.h>
 #include <stdint.h>
 
 #include "blocks.h"
 #include "format.h"
 
-/* Bytes: enough for a length that is a text's again, blocked or not, when it is cut to 16 bits. */
-enum { TEXT_ROOM = BLOCKED_MOST + 65536 };
+/* Bytes: enough for a length that is a text's again when it is cut to 16 bits. */
+enum { TEXT_ROOM = 2 * TEXT_MOST };
 
 struct text {
     size_t length;
@@ -57,22 +56,8 @@ void page_insert_blank(struct page *page, size_t at);
 
 void page_remove(struct page *page, size_t at);
 
-/* How lines are printed. */
-struct layout {
-    size_t columns;    /* that each is filled or cut to; 0 where it is left as it is */
-    uint8_t filling;   /* what it is filled with */
-    bool ends;         /* its end counts among its columns */
-    const char *after; /* what stands behind the columns of each */
-    bool last_short;   /* the last one is not filled */
-};
-
-extern const struct layout unblocked_layout, blocked_layout;
-
 /* The page as one text; what it has no room for is left out. */
-void page_print(const struct page *page, const struct layout *layout, struct text *text);
-
-/* Leaves lines that both forms can have: no column past 120, no LF, no CR at the end; each is ended by LF or CR LF. */
-void page_settle(struct page *page);
+void page_print(const struct page *page, struct text *text);
 
 /* The six columns of a field, numbered from 1. */
 uint8_t *field_at(struct line *line, size_t field);

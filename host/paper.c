@@ -5,13 +5,15 @@
 
 #include "blocks.h"
 #include "cedar.h"
-#include "paper_lines.h"
 #include "reference.h"
 #include "sheets.h"
 #include "words.h"
 
 /* K's NROW and its record's word 22, as words of the block. */
 enum { K_NROW = 1 + NROW, K_VALUE = 1 + 22 };
+
+/* Bytes of K, of its text, and of those before its JPAR, and before columns 7 to 12 of line 5, where word 22 stands. */
+enum { K_BYTES = 52, K_TEXT = 150, BEFORE_JPAR = FIELD_COLUMNS * (JPAR - 1), BEFORE_VALUE = 130 };
 
 static void check(struct tally *tally, const char *what, bool holds)
 {
@@ -25,7 +27,83 @@ static void check_answer(struct tally *tally, const char *what, const struct blo
           cedar_judge(block->bytes, block->length) == answer && reference_judge(block->bytes, block->length) == answer);
 }
 
-size_t read_file(const char *name, uint8_t *bytes, size_t room)
+struct bytes {
+    const uint8_t *at;
+    size_t length;
+};
+
+/* Whether the call writes this output where there is just room for it, and only asks for that room where a byte lacks. */
+static bool writes(conversion *call, struct bytes input, struct bytes output)
+{
+    static const uint8_t before[CEDAR_TEXT_MOST];
+    static uint8_t written[CEDAR_TEXT_MOST];
+
+    memset(written, 0, sizeof written);
+    return call(input.at, input.length, written, output.length - 1) == pack(29, output.length, 0, 0) &&
+           memcmp(written, before, sizeof written) == 0 &&
+           call(input.at, input.length, written, output.length) == pack(0, output.length, 0, 0) &&
+           memcmp(written, output.at, output.length) == 0;
+}
+
+/* The pair that makes a block of a text, of the library or of the reference. */
+struct text_calls {
+    judging *judge;
+    conversion *write;
+};
+
+static const struct text_calls library = {cedar_judge_lines, cedar_write_block};
+static const struct text_calls reference = {reference_judge_lines, reference_write_block};
+
+/* Whether judging tells the size of this block, and writing asks for that size and takes it. */
+static bool accepts(struct text_calls calls, struct bytes text, struct bytes block)
+{
+    return calls.judge(text.at, text.length) == pack(0, block.length, 0, 0) && writes(calls.write, text, block);
+}
+
+static void check_accepted(struct tally *tally, const char *what, struct bytes text, struct bytes block)
+{
+    check(tally, what, accepts(library, text, block) && accepts(reference, text, block));
+}
+
+/* Whether judging and writing give this refusal, and the block stays as it was. */
+static bool refuses(struct text_calls calls, struct bytes text, uint64_t answer)
+{
+    static uint8_t before[CEDAR_BLOCK_MOST], block[CEDAR_BLOCK_MOST];
+
+    memset(before, '*', sizeof before);
+    memset(block, '*', sizeof block);
+    return calls.judge(text.at, text.length) == answer &&
+           calls.write(text.at, text.length, block, sizeof block) == answer && memcmp(block, before, sizeof block) == 0;
+}
+
+static void check_refused(struct tally *tally, const char *what, const uint8_t *text, size_t length, uint64_t answer)
+{
+    struct bytes lines = {text, length};
+
+    check(tally, what, refuses(library, lines, answer) && refuses(reference, lines, answer));
+}
+
+/* The block's text is this one, and is read as the block. */
+static void check_text(struct tally *tally, const char *what, const struct block *block, const uint8_t *text,
+                       size_t length)
+{
+    struct bytes lines = {text, length}, words = {block->bytes, block->length};
+
+    check(tally, what, writes(cedar_to_lines, words, lines) && writes(reference_to_lines, words, lines));
+    check_accepted(tally, what, lines, words);
+}
+
+/* A text of which only the length is given. */
+static void check_length(struct tally *tally, const char *what, const struct block *block, size_t length)
+{
+    static uint8_t text[CEDAR_TEXT_MOST];
+
+    reference_to_lines(block->bytes, block->length, text, sizeof text);
+    check_text(tally, what, block, text, length);
+}
+
+/* The number of bytes read: at most `room`, and 0 if there is no such file. */
+static size_t read_file(const char *name, uint8_t *bytes, size_t room)
 {
     FILE *file = fopen(name, "rb");
     size_t length = 0;
@@ -45,12 +123,61 @@ static void check_file(struct tally *tally, const char *name, const struct block
     check(tally, name, length == block->length && memcmp(bytes, block->bytes, length) == 0);
 }
 
+static size_t lines_in(const uint8_t *text, size_t length)
+{
+    size_t lines = 0;
+
+    for (size_t i = 0; i < length; i++)
+        lines += text[i] == '\n';
+    return lines;
+}
+
+/* NAME.block must be accepted, with one record, and NAME.lines be its text, of so many lines. */
+static void check_shipped(struct tally *tally, const char *name, size_t lines)
+{
+    static struct block block;
+    static uint8_t text[CEDAR_TEXT_MOST];
+    char block_name[64], lines_name[64];
+    size_t length;
+
+    snprintf(block_name, sizeof block_name, "example/%s.block", name);
+    snprintf(lines_name, sizeof lines_name, "example/%s.lines", name);
+    block.length = read_file(block_name, block.bytes, sizeof block.bytes);
+    length = read_file(lines_name, text, sizeof text);
+    check_answer(tally, block_name, &block, pack(0, 1, 0, 0));
+    if (lines_in(text, length) == lines)
+        check_text(tally, lines_name, &block, text, length);
+    else
+        check(tally, lines_name, false);
+}
+
+/*
+ * K, and the records of Tables 2, 5 and 7 in document 000. What their print breaks or leaves open was chosen so:
+ *   Numbers end in the last column of their field; a description begins one column after its field does.
+ *   Each keyword is a card, also without text. A dot, for cards left out, is a card of blanks.
+ *   The spelling is the print's. What it cuts off was guessed.
+ *   Table 2: "Data above", "Inco-", "Fabry-Per-", "Satellite pa-", "Substorm", "Sudden co-", "Experi-" and "S-hort".
+ *   Table 5: "-eters have the value -32767", "Assumed parameters hav-", "-och 1983", "-n is taken from a model",
+ *   "The neutral atmosphere mod-", "Collision freq-", "MSIS 1983" on the card CCOLL, and "(Names of pers-".
+ *   DRWDNO 5 to 11 stand beside the times, as the printed 12 does.
+ *   The card KRECH says 3002 in the lines too, since cards are the same in both forms.
+ *   Data: Table 7 prints no values, so this is a record that the Header describes; values and ending time were made up.
+ */
+static void check_examples(struct tally *tally)
+{
+    check_shipped(tally, "k", 6);
+    check_shipped(tally, "catalogue", 40);
+    check_shipped(tally, "header", 47);
+    check_shipped(tally, "data", 7);
+}
+
 static void check_k(struct tally *tally)
 {
     static struct block block;
 
     block_of_k(&block);
     check_answer(tally, "example 1", &block, pack(0, 1, 0, 0));
+    check_length(tally, "example 1, text", &block, K_TEXT);
     check_file(tally, "example/k.block", &block);
     put_word(block.bytes, block.words, (uint16_t)-32515);
     check_answer(tally, "example 2", &block, pack(3, 0, 0, 1));
@@ -60,13 +187,72 @@ static void check_k(struct tally *tally)
     check_file(tally, "example/k-damaged.block", &block);
 }
 
-/* A file of a block with one record. */
-static void check_shipped(struct tally *tally, const char *name)
+/* K, and its text with these columns in the place of others. */
+static void k_with(struct block *block, uint8_t *text, size_t before, const char *columns)
+{
+    block_of_k(block);
+    reference_to_lines(block->bytes, block->length, text, K_TEXT);
+    memcpy(text + before, columns, strlen(columns));
+}
+
+static void check_good_field(struct tally *tally, const char *columns, int value)
 {
     static struct block block;
+    uint8_t text[K_TEXT];
+    struct bytes lines = {text, sizeof text}, words = {block.bytes, 0};
 
-    block.length = read_file(name, block.bytes, sizeof block.bytes);
-    check_answer(tally, name, &block, pack(0, 1, 0, 0));
+    k_with(&block, text, BEFORE_VALUE, columns);
+    put_word(block.bytes, K_VALUE, (uint16_t)value);
+    block_seal(&block);
+    words.length = block.length;
+    check_accepted(tally, columns, lines, words);
+}
+
+static void check_bad_columns(struct tally *tally, size_t before, const char *columns, uint64_t answer)
+{
+    static struct block block;
+    uint8_t text[K_TEXT];
+
+    k_with(&block, text, before, columns);
+    check_refused(tally, columns, text, sizeof text, answer);
+}
+
+/* Example 7. */
+static void check_fields(struct tally *tally)
+{
+    check_good_field(tally, "-32768", -32768);
+    check_good_field(tally, "032767", 32767);
+    check_good_field(tally, "    +5", 5);
+    check_good_field(tally, "    -0", 0);
+    check_bad_columns(tally, BEFORE_VALUE, "-32769", pack(22, 5, 7, 0));
+    check_bad_columns(tally, BEFORE_VALUE, "032768", pack(22, 5, 7, 0));
+    check_bad_columns(tally, BEFORE_VALUE, "12    ", pack(22, 5, 7, 0));
+    check_bad_columns(tally, BEFORE_VALUE, "      ", pack(22, 5, 7, 0));
+}
+
+/* Columns put into lines after these were judged: writing answers for the lines that it finds, in either direction. */
+static void check_judged_again(struct tally *tally, struct text_calls calls)
+{
+    static struct block block;
+    uint8_t text[K_TEXT], written[K_BYTES];
+    uint64_t size = pack(0, sizeof written, 0, 0), bad_field = pack(22, 5, 7, 0);
+
+    k_with(&block, text, BEFORE_VALUE, "   900");
+    check(tally, "good lines", calls.judge(text, sizeof text) == size);
+    memcpy(text + BEFORE_VALUE, "-32769", FIELD_COLUMNS);
+    check(tally, "good lines, then bad", calls.write(text, sizeof text, written, sizeof written) == bad_field);
+    check(tally, "bad lines", calls.judge(text, sizeof text) == bad_field);
+    memcpy(text + BEFORE_VALUE, "   900", FIELD_COLUMNS);
+    check(tally, "bad lines, then good", calls.write(text, sizeof text, written, sizeof written) == size);
+    check(tally, "bad lines, then good, block", memcmp(written, block.bytes, sizeof written) == 0);
+}
+
+/* JPAR, MPAR and NROW: their sum is K's again in 16 bits; it is negative in 16 bits; MPAR is too low. */
+static void check_counts(struct tally *tally)
+{
+    check_bad_columns(tally, BEFORE_JPAR, "     2     4 16384", pack(28, 1, 1, 0));
+    check_bad_columns(tally, BEFORE_JPAR, "     1 32767 32767", pack(28, 1, 1, 0));
+    check_bad_columns(tally, BEFORE_JPAR, "     1    -1    -1", pack(27, 1, 85, 0));
 }
 
 static void check_smallest(struct tally *tally)
@@ -84,8 +270,43 @@ static void check_largest(struct tally *tally)
 
     block_of_most_data(&block);
     check_answer(tally, "the most Data words", &block, pack(0, 1, 0, 0));
+    check_length(tally, "the longest text", &block, CEDAR_TEXT_MOST);
     block_of_most_cards(&block);
     check_answer(tally, "example 9, Catalogue of 199 lines", &block, pack(0, 1, 0, 0));
+    check_length(tally, "text of a Catalogue of 199 lines", &block, 121 + 198 * 81);
+}
+
+/* Catalogues: field 1 decides, whatever lines there are. */
+static void check_line_counts(struct tally *tally)
+{
+    static struct block block;
+    static uint8_t text[CEDAR_TEXT_MOST];
+    size_t length;
+
+    block_of_most_cards(&block);
+    length = cedar_a(reference_to_lines(block.bytes, block.length, text, sizeof text));
+    memcpy(text, "   200", FIELD_COLUMNS);
+    check_refused(tally, "example 9, field 1 of 200", text, length, pack(24, 1, 1, 0));
+    memcpy(text, "     0", FIELD_COLUMNS);
+    check_refused(tally, "field 1 of 0", text, length, pack(24, 1, 1, 0));
+    memcpy(text, "   199", FIELD_COLUMNS);
+    check_refused(tally, "a line that lacks", text, length - 81, pack(25, 199, 1, 0));
+}
+
+/* As many lines as a text can have, and their last one. */
+static void check_most_lines(struct tally *tally)
+{
+    static uint8_t text[TEXT_MOST + 1];
+    uint8_t *last = &text[TEXT_MOST - 1];
+
+    memset(text, '\n', sizeof text);
+    check_refused(tally, "no line", text, 0, pack(21, 0, 0, 0));
+    check_refused(tally, "only empty lines", text, TEXT_MOST, pack(21, 0, 0, 0));
+    check_refused(tally, "a line too many", text, TEXT_MOST + 1, pack(30, 0, 0, 0));
+    *last = '0';
+    check_refused(tally, "line 65,536 without a field", text, TEXT_MOST, pack(22, TEXT_MOST, 1, 0));
+    *last = CARD_MOST + 1;
+    check_refused(tally, "line 65,536 with a bad byte", text, TEXT_MOST, pack(20, TEXT_MOST, 1, 0));
 }
 
 /* The calls on a sheet, of the library or of the reference; and K with its sheet, which they change. */
@@ -135,9 +356,7 @@ static bool shows(const struct amended_k *k, const char *columns)
     static struct block block;
     uint8_t text[K_TEXT], expected[K_TEXT];
 
-    block_of_k(&block);
-    reference_to_lines(block.bytes, block.length, expected, sizeof expected);
-    memcpy(expected + BEFORE_VALUE, columns, FIELD_COLUMNS);
+    k_with(&block, expected, BEFORE_VALUE, columns);
     return cedar_to_lines(k->block.bytes, k->block.length, text, sizeof text) == pack(0, K_TEXT, 0, 0) &&
            memcmp(text, expected, sizeof text) == 0;
 }
@@ -291,10 +510,13 @@ void check_paper(struct tally *tally)
     check_k(tally);
     check_smallest(tally);
     check_largest(tally);
-    check_shipped(tally, "example/catalogue.block");
-    check_shipped(tally, "example/header.block");
-    check_shipped(tally, "example/data.block");
-    check_paper_lines(tally);
+    check_fields(tally);
+    check_judged_again(tally, library);
+    check_judged_again(tally, reference);
+    check_counts(tally);
+    check_line_counts(tally);
+    check_most_lines(tally);
+    check_examples(tally);
     check_sheet(tally);
     check_prefix(tally, 30, "MLH");
     check_prefix(tally, 5140, "AQF");

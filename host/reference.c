@@ -148,27 +148,22 @@ static size_t lines_of_record(const uint8_t *record)
     return word_at(record, 2) == DATA ? lines_of_data(record) : word_at(record, 1) / LINE_WORDS;
 }
 
-/* How a line ends: with LF, or with blanks as far as its last column. */
-enum ending { LF, FILLED };
-
-/* The bytes of the record's lines with their ends. */
-static size_t text_of_record(const uint8_t *record, enum ending ending)
+/* The bytes of the record's lines, each with its LF. */
+static size_t text_of_record(const uint8_t *record)
 {
     size_t lines = lines_of_record(record);
 
-    if (ending == FILLED)
-        return LINE_COLUMNS * lines;
     if (word_at(record, 2) == DATA)
         return FIELD_COLUMNS * word_at(record, 1) + lines;
     return FIELD_COLUMNS * LINE_FIELDS + CARD_COLUMNS * (lines - 1) + lines;
 }
 
-static size_t text_of_records(const uint8_t *record, const uint8_t *end, enum ending ending)
+static size_t text_of_records(const uint8_t *record, const uint8_t *end)
 {
     size_t bytes = 0;
 
     for (; record < end; record += bytes_of(word_at(record, 1)))
-        bytes += text_of_record(record, ending);
+        bytes += text_of_record(record);
     return bytes;
 }
 
@@ -187,33 +182,28 @@ static uint8_t *write_field(uint8_t *text, int32_t value)
     return text + FIELD_COLUMNS;
 }
 
-/* After so many columns of the line; inline, as what takes it, so that neither ending costs the other anything. */
-static inline uint8_t *write_ending(uint8_t *text, size_t columns, enum ending ending)
+static uint8_t *write_line_end(uint8_t *text)
 {
-    if (ending == FILLED) {
-        memset(text, ' ', LINE_COLUMNS - columns);
-        return text + LINE_COLUMNS - columns;
-    }
     *text = '\n';
     return text + 1;
 }
 
-static inline uint8_t *write_line(uint8_t *text, const uint8_t *line, size_t fields, enum ending ending)
+static uint8_t *write_line(uint8_t *text, const uint8_t *line, size_t fields)
 {
     for (size_t number = 1; number <= fields; number++)
         text = write_field(text, signed_word(line, number));
-    return write_ending(text, FIELD_COLUMNS * fields, ending);
+    return write_line_end(text);
 }
 
 /* A part without fields takes no line. */
-static inline uint8_t *write_part(uint8_t *text, const uint8_t *part, size_t fields, enum ending ending)
+static uint8_t *write_part(uint8_t *text, const uint8_t *part, size_t fields)
 {
     for (; fields > LINE_FIELDS; fields -= LINE_FIELDS, part += bytes_of(LINE_FIELDS))
-        text = write_line(text, part, LINE_FIELDS, ending);
-    return fields > 0 ? write_line(text, part, fields, ending) : text;
+        text = write_line(text, part, LINE_FIELDS);
+    return fields > 0 ? write_line(text, part, fields) : text;
 }
 
-static uint8_t *write_data(uint8_t *text, const uint8_t *record, enum ending ending)
+static uint8_t *write_data(uint8_t *text, const uint8_t *record)
 {
     size_t lprol = word_at(record, LPROL);
     size_t jpar = word_at(record, JPAR);
@@ -222,23 +212,23 @@ static uint8_t *write_data(uint8_t *text, const uint8_t *record, enum ending end
     const uint8_t *codes = record + bytes_of(lprol);
     const uint8_t *values = codes + bytes_of(jpar);
 
-    text = write_part(text, record, lprol, ending);
-    text = write_part(text, codes, jpar, ending);
-    text = write_part(text, values, jpar, ending);
+    text = write_part(text, record, lprol);
+    text = write_part(text, codes, jpar);
+    text = write_part(text, values, jpar);
     /* The 2-D codes are written as the rows are. */
     for (const uint8_t *row = values + bytes_of(jpar); row < end; row += bytes_of(mpar))
-        text = write_part(text, row, mpar, ending);
+        text = write_part(text, row, mpar);
     return text;
 }
 
-static uint8_t *write_catalogue(uint8_t *text, const uint8_t *record, enum ending ending)
+static uint8_t *write_catalogue(uint8_t *text, const uint8_t *record)
 {
     const uint8_t *end = record + bytes_of(word_at(record, 1));
 
-    text = write_part(text, record, LINE_FIELDS, ending);
+    text = write_part(text, record, LINE_FIELDS);
     for (const uint8_t *card = record + bytes_of(LINE_WORDS); card < end; card += CARD_COLUMNS) {
         memcpy(text, card, CARD_COLUMNS);
-        text = write_ending(text + CARD_COLUMNS, CARD_COLUMNS, ending);
+        text = write_line_end(text + CARD_COLUMNS);
     }
     return text;
 }
@@ -248,10 +238,10 @@ static int32_t kind_in_lines(uint16_t kind)
     return kind == DATA ? DATA_IN_LINES : kind == CATALOGUE ? CATALOGUE_IN_LINES : HEADER_IN_LINES;
 }
 
-static uint8_t *write_record(uint8_t *text, const uint8_t *record, enum ending ending)
+static uint8_t *write_record(uint8_t *text, const uint8_t *record)
 {
     uint16_t kind = word_at(record, 2);
-    uint8_t *end = kind == DATA ? write_data(text, record, ending) : write_catalogue(text, record, ending);
+    uint8_t *end = kind == DATA ? write_data(text, record) : write_catalogue(text, record);
 
     /* Only the first two fields are not as the words are. */
     write_field(text, (int32_t)lines_of_record(record));
@@ -259,8 +249,7 @@ static uint8_t *write_record(uint8_t *text, const uint8_t *record, enum ending e
     return end;
 }
 
-static uint64_t write_text(const uint8_t *block, size_t block_length, uint8_t *text, size_t text_length,
-                           enum ending ending)
+uint64_t reference_to_lines(const uint8_t *block, size_t block_length, uint8_t *text, size_t text_length)
 {
     uint64_t judged = reference_judge(block, block_length);
     const uint8_t *record, *end;
@@ -270,22 +259,12 @@ static uint64_t write_text(const uint8_t *block, size_t block_length, uint8_t *t
         return judged;
     record = block + bytes_of(1);
     end = block + block_length - bytes_of(1);
-    needed = text_of_records(record, end, ending);
+    needed = text_of_records(record, end);
     if (text_length < needed)
         return pack(29, needed, 0, 0);
     for (; record < end; record += bytes_of(word_at(record, 1)))
-        text = write_record(text, record, ending);
+        text = write_record(text, record);
     return pack(0, needed, 0, 0);
-}
-
-uint64_t reference_to_lines(const uint8_t *block, size_t block_length, uint8_t *text, size_t text_length)
-{
-    return write_text(block, block_length, text, text_length, LF);
-}
-
-uint64_t reference_to_blocked_lines(const uint8_t *block, size_t block_length, uint8_t *text, size_t text_length)
-{
-    return write_text(block, block_length, text, text_length, FILLED);
 }
 
 /* Document 000, Table 3, first listing; 7240 stands there without a prefix. */

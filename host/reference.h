@@ -20,9 +20,10 @@ typedef uint64_t amending(uint8_t *block, size_t block_length, uint8_t *sheet, s
                           uint16_t word, uint16_t old_value, uint16_t new_value);
 typedef uint64_t undoing(uint8_t *block, size_t block_length, uint8_t *sheet, size_t sheet_length);
 
-judging reference_judge, reference_judge_lines, reference_judge_blocked_lines;
-conversion reference_to_lines, reference_write_block;
-conversion reference_to_blocked_lines, reference_write_block_from_blocked;
+uint64_t reference_judge(const uint8_t *block, size_t length);
+uint64_t reference_to_lines(const uint8_t *block, size_t block_length, uint8_t *text, size_t text_length);
+uint64_t reference_judge_lines(const uint8_t *text, size_t text_length);
+uint64_t reference_write_block(const uint8_t *text, size_t text_length, uint8_t *block, size_t block_length);
 uint64_t reference_prefix(uint16_t instrument);
 starting reference_sheet_start;
 amending reference_amend;

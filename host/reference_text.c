@@ -9,7 +9,6 @@
 
 /* A text as it is read: once to judge it, and once more to write its block. */
 struct reader {
-    bool blocked;                    /* lines of 120 bytes, which nothing ends */
     const uint8_t *next, *end;       /* of the text, what is still to be read */
     const uint8_t *line;             /* the line that was read last */
     size_t number, columns;          /* of this line */
@@ -34,32 +33,17 @@ static bool is_printed(uint8_t byte)
     return byte >= CARD_LEAST && byte <= CARD_MOST;
 }
 
-/* The next line as far as its bytes are printed, before this end; gives the place after them. */
-static const uint8_t *begin_line(struct reader *reader, const uint8_t *end)
+/* A line that is there. The first byte that is not printed must be its end. */
+static bool read_line(struct reader *reader)
 {
     const uint8_t *at = reader->next;
+    const uint8_t *end = reader->end;
 
     while (at < end && is_printed(*at))
         at++;
     reader->line = reader->next;
     reader->columns = (size_t)(at - reader->line);
     reader->number++;
-    return at;
-}
-
-/* All 120 bytes must be printed. */
-static bool read_blocked_line(struct reader *reader)
-{
-    reader->next = begin_line(reader, reader->next + LINE_COLUMNS);
-    return reader->columns == LINE_COLUMNS || refuse(reader, 20, reader->columns + 1);
-}
-
-/* The first byte that is not printed must be the line's end. */
-static bool read_ended_line(struct reader *reader)
-{
-    const uint8_t *end = reader->end;
-    const uint8_t *at = begin_line(reader, end);
-
     if (reader->columns > LINE_COLUMNS)
         return refuse(reader, 20, LINE_COLUMNS + 1);
     if (end - at > 1 && at[0] == '\r' && at[1] == '\n')
@@ -68,12 +52,6 @@ static bool read_ended_line(struct reader *reader)
         return refuse(reader, 20, reader->columns + 1);
     reader->next = at;
     return true;
-}
-
-/* A line that is there. */
-static bool read_line(struct reader *reader)
-{
-    return reader->blocked ? read_blocked_line(reader) : read_ended_line(reader);
 }
 
 /* A line that the record must still have. */
@@ -309,16 +287,21 @@ static uint64_t read_records(struct reader *reader)
     return reader->words == 0 ? pack(21, 0, 0, 0) : 0;
 }
 
-static uint64_t judge_text(struct reader reader)
+uint64_t reference_judge_lines(const uint8_t *text, size_t text_length)
 {
-    uint64_t refused = read_records(&reader);
+    struct reader reader = {.next = text, .end = text + text_length};
+    uint64_t refused;
 
+    if (text_length > TEXT_MOST)
+        return pack(30, 0, 0, 0);
+    refused = read_records(&reader);
     return refused != 0 ? refused : pack(0, bytes_of(reader.words + 2), 0, 0);
 }
 
-/* The writer is at the start of a text that was judged so. */
-static uint64_t write_block(struct reader writer, uint64_t judged, uint8_t *block, size_t block_length)
+uint64_t reference_write_block(const uint8_t *text, size_t text_length, uint8_t *block, size_t block_length)
 {
+    struct reader writer = {.next = text, .end = text + text_length};
+    uint64_t judged = reference_judge_lines(text, text_length);
     size_t words = words_of(cedar_a(judged));
 
     if (cedar_n(judged) != 0)
@@ -330,35 +313,4 @@ static uint64_t write_block(struct reader writer, uint64_t judged, uint8_t *bloc
     put_word(block, 1, (uint16_t)words);
     put_word(block, words, exclusive_or(block, words - 1));
     return judged;
-}
-
-uint64_t reference_judge_lines(const uint8_t *text, size_t text_length)
-{
-    struct reader reader = {.next = text, .end = text + text_length};
-
-    return text_length > TEXT_MOST ? pack(30, 0, 0, 0) : judge_text(reader);
-}
-
-uint64_t reference_write_block(const uint8_t *text, size_t text_length, uint8_t *block, size_t block_length)
-{
-    struct reader writer = {.next = text, .end = text + text_length};
-
-    return write_block(writer, reference_judge_lines(text, text_length), block, block_length);
-}
-
-uint64_t reference_judge_blocked_lines(const uint8_t *text, size_t text_length)
-{
-    struct reader reader = {.blocked = true, .next = text, .end = text + text_length};
-
-    if (text_length % LINE_COLUMNS != 0 || text_length > BLOCKED_MOST)
-        return pack(60, 0, 0, 0);
-    return judge_text(reader);
-}
-
-uint64_t reference_write_block_from_blocked(const uint8_t *text, size_t text_length, uint8_t *block,
-                                            size_t block_length)
-{
-    struct reader writer = {.blocked = true, .next = text, .end = text + text_length};
-
-    return write_block(writer, reference_judge_blocked_lines(text, text_length), block, block_length);
 }

@@ -382,42 +382,14 @@ void spoil_text(struct chance *chance, struct text *text)
     }
 }
 
-/* Gives where they begin. */
-static uint8_t *add_blanks(struct chance *chance, struct text *text, size_t count)
-{
-    size_t at = one_in(chance, 2) ? 0 : text->length;
-
-    insert_bytes(text, at, count, ' ');
-    return text->bytes + at;
-}
-
-static size_t lacking(const struct text *text, size_t length)
-{
-    return length > text->length ? length - text->length : 0;
-}
-
 void fill_text(struct chance *chance, struct text *text, size_t length)
 {
     static const size_t columns[] = {0, 0, 0, 1, LINE_COLUMNS - 1, LINE_COLUMNS};
     size_t line = PICK(chance, columns) + 1;
-    size_t added = lacking(text, length);
-    uint8_t *blanks = add_blanks(chance, text, added);
+    size_t at = one_in(chance, 2) ? 0 : text->length;
+    size_t added = length > text->length ? length - text->length : 0;
 
+    insert_bytes(text, at, added, ' ');
     for (size_t left = 1; left <= added; left += line)
-        blanks[added - left] = '\n';
-}
-
-void fill_with_blanks(struct chance *chance, struct text *text, size_t length)
-{
-    add_blanks(chance, text, lacking(text, length));
-}
-
-void square_text(struct chance *chance, struct text *text)
-{
-    size_t over = text->length % LINE_COLUMNS;
-
-    if (over > 0 && one_in(chance, 2))
-        insert_bytes(text, text->length, LINE_COLUMNS - over, ' ');
-    else
-        text->length -= over;
+        text->bytes[at + added - left] = '\n';
 }

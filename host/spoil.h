@@ -11,11 +11,7 @@ void spoil_page(struct chance *chance, struct page *page);
 /* One fault in the bytes. */
 void spoil_text(struct chance *chance, struct text *text);
 
-/* Makes the text so long by blank lines, or by blanks alone, before or after it, unless it is longer. */
+/* Makes the text so long by blank lines before or after it, unless it is longer. */
 void fill_text(struct chance *chance, struct text *text, size_t length);
-void fill_with_blanks(struct chance *chance, struct text *text, size_t length);
-
-/* Cuts or fills a last line that has not 120 bytes. */
-void square_text(struct chance *chance, struct text *text);
 
 #endif

@@ -4,14 +4,6 @@
 #include <stdio.h>
 
 #include "cedar.h"
-#include "format.h"
-
-struct lent lend(const char *name, const uint8_t *bytes, size_t length, enum look look)
-{
-    struct lent lent = {name, length, bytes, bytes, NULL, look};
-
-    return lent;
-}
 
 /* What came of a call at one end of the guards. */
 struct outcome {
@@ -86,22 +78,17 @@ static void print_bytes(const uint8_t *bytes, size_t length)
         printf("%s%02x", i % A_LINE == 0 ? "\n    " : " ", bytes[i]);
 }
 
-static void print_character(uint8_t byte)
-{
-    printf(byte >= CARD_LEAST && byte <= CARD_MOST ? "%c" : "<%02x>", byte);
-}
-
 /* A line of the text each, and its bad bytes as numbers. */
-static void print_characters(const uint8_t *bytes, size_t length, bool blocked)
+static void print_characters(const uint8_t *bytes, size_t length)
 {
     enum { SHOWN = 4000 };
 
-    for (size_t i = 0; i < length && i < SHOWN; i++) {
-        if (blocked ? i % LINE_COLUMNS == 0 : i == 0 || bytes[i - 1] == '\n')
+    printf("\n    ");
+    for (size_t i = 0; i < length && i < SHOWN; i++)
+        if (bytes[i] == '\n')
             printf("\n    ");
-        if (blocked || bytes[i] != '\n')
-            print_character(bytes[i]);
-    }
+        else
+            printf(bytes[i] >= ' ' && bytes[i] <= '~' ? "%c" : "<%02x>", bytes[i]);
 }
 
 static void print_lent(const struct lent *lent)
@@ -109,8 +96,8 @@ static void print_lent(const struct lent *lent)
     printf("  %s, %zu bytes", lent->name, lent->length);
     if (lent->look == FIRST_BYTES)
         print_bytes(lent->before, lent->length);
-    else if (lent->look != LENGTH_ONLY)
-        print_characters(lent->before, lent->length, lent->look == BLOCKED_CHARACTERS);
+    else if (lent->look == CHARACTERS)
+        print_characters(lent->before, lent->length);
     printf("\n");
 }
 
@@ -156,13 +143,13 @@ void try_call(struct trials *trials, struct trial *trial)
 
 void print_reached(struct trials *trials, const struct call *call)
 {
-    printf("%-19s %4s %9s\n", call->name, "n", "reached");
+    printf("%-11s %4s %9s\n", call->name, "n", "reached");
     for (int n = 0; n < ANSWERS; n++) {
         bool given = (call->gives >> n & 1) != 0, reached = call->reached[n] > 0;
 
         if (!given && !reached)
             continue;
-        printf("%-19s %4d %9lu\n", "", n, call->reached[n]);
+        printf("%-11s %4d %9lu\n", "", n, call->reached[n]);
         if (tally_fails(&trials->tally, given && reached))
             printf("FAILED answer %d of %s was %s\n", n, call->name, given ? "not reached" : "reached");
     }

@@ -7,11 +7,10 @@
 #include <stdint.h>
 
 #include "guard.h"
-#include "reference.h"
 #include "tally.h"
 
 /* More than the largest n of an answer. */
-enum { ANSWERS = 61 };
+enum { ANSWERS = 53 };
 
 /* An answer as a bit, and those that a block alone decides, 0 to 9. */
 #define ANSWER(n) (UINT64_C(1) << (n))
@@ -21,7 +20,7 @@ enum { ANSWERS = 61 };
 enum { LENT_MOST = 2, NUMBERS_MOST = 4 };
 
 /* How a buffer is printed. */
-enum look { LENGTH_ONLY, FIRST_BYTES, CHARACTERS, BLOCKED_CHARACTERS };
+enum look { LENGTH_ONLY, FIRST_BYTES, CHARACTERS };
 
 struct lent {
     const char *name;
@@ -31,16 +30,11 @@ struct lent {
     enum look look;
 };
 
-/* A buffer that the call must leave as it is. */
-struct lent lend(const char *name, const uint8_t *bytes, size_t length, enum look look);
-
 struct trial;
 
 struct call {
     const char *name;
     uint64_t (*make)(const struct trial *);
-    judging *judge;      /* the library's call, where make_judging makes it */
-    conversion *convert; /* and where make_conversion does */
     size_t buffers, numbers;
     uint64_t gives;                 /* has bit n for each answer n that the call can give */
     unsigned long reached[ANSWERS]; /* trials in which each was due */

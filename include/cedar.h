@@ -2,8 +2,7 @@
  * cedar.h: the C calls of Nalungkep, a proved converter for CEDAR radar data.
  *
  * The library judges binary blocks of the CEDAR database format, writes their lines, judges lines, writes their block,
- * all that for blocked lines too, repacks blocks, amends a block's values and undoes that, and finds instruments'
- * prefixes.
+ * repacks blocks, amends a block's values and undoes that, and finds instruments' prefixes.
  * The calls are proved, for every input, against definitions; this page says in words what those say.
  * Link x86-64 programs with libcedar.a; of the C library it needs memset alone.
  *
@@ -53,10 +52,6 @@
  *   Columns after a line's last field, or after a card's column 80, are blank.
  *   A blank line has no byte or only blanks. It may stand before, between and after records; in a record it is a card,
  *   or a line of Data whose fields are bad.
- *
- * Blocked lines
- *   are the same lines, each filled with blanks to 120 bytes, run together without line ends, also without a last LF.
- *   When they are read, every 120 bytes are a line, spelled as widely as above. CR and LF are bad bytes everywhere.
  *
  * A sheet
  *   is 520 bytes that keep a block's amendments, so that they can be undone; its numbers are 16 bits, high byte first.
@@ -186,62 +181,6 @@ uint64_t cedar_judge_lines(const uint8_t *text, size_t text_length);
  * Bytes of the block past those written stay as they are.
  */
 uint64_t cedar_write_block(const uint8_t *text, size_t text_length, uint8_t *block, size_t block_length);
-
-/* Bytes that suffice for the blocked lines of any block. */
-enum { CEDAR_BLOCKED_MOST = 957960 };
-
-/*
- * Writes the blocked lines of the block in the `block_length` bytes at `block`, which must be exactly one block, to
- * `text`: 120 bytes for each line that cedar_to_lines writes. The text has room for `text_length` bytes.
- *
- *   n       given when                                     a               b               c
- *   0       the blocked lines are written                  bytes written
- *   1 to 9  cedar_judge refuses the block                  as there        as there        as there
- *   29      the output is shorter than needed              bytes needed
- *
- * Tried in this order: 1 to 9, then 29.
- * So a call with text_length 0, and any text but NULL, asks how many bytes an accepted block needs.
- * Bytes of the text past those written stay as they are: no NUL and no LF is added.
- */
-uint64_t cedar_to_blocked_lines(const uint8_t *block, size_t block_length, uint8_t *text, size_t text_length);
-
-/* Bytes of the longest blocked lines that are read. */
-enum { CEDAR_BLOCKED_READ_MOST = 960000 };
-
-/*
- * Judges the blocked lines in the `text_length` bytes at `text`, and tells how many bytes their block needs; writes
- * nothing.
- *
- *   n         given when                                   a               b               c
- *   0         the blocked lines are accepted               bytes needed
- *   20 to 28  cedar_judge_lines refuses these lines        as there        as there
- *   60        the length of the blocked lines is no
- *             multiple of 120, or over 960,000 bytes
- *
- * Tried in this order: 60, then 20 to 28 as there; the first that holds is the answer.
- * With text_length 0 there is no line, and the answer is 21. No line has a column past 120. 30 is never given.
- * Of the same lines, ended or blocked, cedar_judge_lines and this call give the same answer, 0 or a refusal, wherever
- *   the text is not over 65,536 bytes and the blocked lines are not over 960,000: lines of at most 120 bytes that have
- *   no LF and do not end with CR.
- */
-uint64_t cedar_judge_blocked_lines(const uint8_t *text, size_t text_length);
-
-/*
- * Writes the block of the blocked lines in the `text_length` bytes at `text` to `block`.
- * The block has room for `block_length` bytes.
- *
- *   n             given when                               a               b               c
- *   0             the block is written                     bytes written
- *   20 to 28, 60  cedar_judge_blocked_lines refuses the    as there        as there
- *                 text
- *   29            the output is shorter than needed        bytes needed
- *
- * Tried in this order: 60 and 20 to 28 as there, then 29.
- * To look before you write, do as with cedar_judge_lines and cedar_write_block; this call judges again, too.
- * Of the same lines it writes the same block as cedar_write_block; of a block's blocked lines, that block.
- * Bytes of the block past those written stay as they are.
- */
-uint64_t cedar_write_block_from_blocked(const uint8_t *text, size_t text_length, uint8_t *block, size_t block_length);
 
 /* Bytes of the blocks that are repacked together, at most. They suffice for the blocks that come out, too. */
 enum { CEDAR_REPACK_MOST = 64000 };

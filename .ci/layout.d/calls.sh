@@ -18,8 +18,7 @@ calls_as() {
     calls | sed -E "s|^([a-z0-9_]+)::([a-z0-9_]+)\t([A-Za-z]+)\t([A-Za-z]+)\$|$1|"
 }
 
-# Each call is there and ensures `λ r. ⌜ PROMISE ARGUMENTS ⌝`, where the arguments are r, the parameters, buffers afterwards, and for C a form of lines,
-# which is that of the call's name, as in
+# Each call is there and ensures `λ r. ⌜ PROMISE ARGUMENTS ⌝`, where the arguments are r, the parameters and buffers afterwards, as in
 #     ensures { λ r. ⌜ Judges (now (block .entry)) r ⌝ }
 # whose words, for `applied`, are: ensures { λ r. ⌜ Judges now block .entry r ⌝ }
 contracts() {
@@ -43,7 +42,6 @@ contracts() {
         signature[$1] !~ /^pub (extern "C" )?fn / { print place " is a call in docs/PROMISES.md, but no public function"; next }
         contract[$1] ~ /(^| )requires / { print place " has a requires: " contract[$1]; next }
         !applied(contract[$1], $2) { print place " does not ensure just " $2 " of names: " contract[$1]; next }
-        (part[2] ~ /blocked/) != (contract[$1] ~ / Blocked /) { print place " promises lines of another form than its name says" }
         {
             told(contract[$1], result)
             parameters = signature[$1]; sub(/^[^(]*\( ?/, "", parameters)

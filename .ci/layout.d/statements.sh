@@ -4,9 +4,9 @@ statements_proved() {
 }
 
 statements() {
-    sed -nE 's/^abbrev pub ([A-Z][A-Za-z0-9]*) : Type 0$/\1/p' crates/demands/specs/*.antt crates/{refusals,text_refusals}/specs/{Refusals,Orders}.antt
+    sed -nE 's/^abbrev pub ([A-Z][A-Za-z0-9]*) : Type 0$/\1/p' crates/demands/specs/*.antt crates/refusals/specs/{Refusals,Orders}.antt
 }
 
 statements_shown() {
-    sed -nE 's/^pub [a-z0-9-]+ : ([A-Z][A-Za-z0-9]*)$/\1/p' crates/{demands,refusals,text_refusals}/proofs/*.antt
+    sed -nE 's/^pub [a-z0-9-]+ : ([A-Z][A-Za-z0-9]*)$/\1/p' crates/{demands,refusals}/proofs/*.antt
 }

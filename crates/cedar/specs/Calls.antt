@@ -4,7 +4,6 @@ use Rattle.units.specs.declared.Answer.{Answer}
 use Rattle.units.specs.Answers.{answered, packed_of}
 use Rattle.words.specs.Outcomes.{Written}
 use Rattle.block.specs.Judging.{judged}
-use Rattle.line_form.specs.declared.Form.{Form}
 use Rattle.read_text.specs.Block.{judge_lines}
 use Rattle.amending.specs.Amending.{Outcome}
 use Rattle.prefix.specs.Table.{prefix_of, answer_of}
@@ -13,9 +12,9 @@ use Rattle.prefix.specs.Table.{prefix_of, answer_of}
 abbrev pub judge_answer : List ℕ → Answer
 judge_answer block = answered (judged block)
 
--- document 02, requests 2 and 3: "judges the text and gives the block's size in bytes"
-abbrev pub judge_lines_answer : Form → List ℕ → Answer
-judge_lines_answer f text = answered (judge_lines f text)
+-- document 02, request 2: "judges the text and gives the block's size in bytes"
+abbrev pub judge_lines_answer : List ℕ → Answer
+judge_lines_answer text = answered (judge_lines text)
 
 -- "find an instrument's prefix"
 abbrev pub prefix_answer : ℕ → Answer

@@ -1,7 +1,6 @@
 -- What each C call promises: the number that it returns, and every byte of the buffers that it may write.
 use Rattle.std.specs.Prelude.{◌≡◌, List, ℕ}
 use Rattle.units.specs.Answers.{packed_of}
-use Rattle.line_form.specs.declared.Form.{Form}
 use Rattle.write_lines.specs.Text.{to_lines}
 use Rattle.read_text.specs.Block.{write_block}
 use Rattle.sheet.specs.Sheets.{Entry, version1, started}
@@ -17,17 +16,17 @@ CedarJudges block r = r ≡ packed_of (judge_answer block)
 abbrev pub CedarFindsPrefix : ℕ → ℕ → Type 0
 CedarFindsPrefix instrument r = r ≡ packed_of (prefix_answer instrument)
 
--- `cedar_to_lines` and `cedar_to_blocked_lines`, and the text afterwards
-abbrev pub CedarWritesLines : Form → List ℕ → List ℕ → ℕ → List ℕ → Type 0
-CedarWritesLines f block text r after = returned r after ≡ converted (to_lines f block text)
+-- `cedar_to_lines`, and the text afterwards
+abbrev pub CedarWritesLines : List ℕ → List ℕ → ℕ → List ℕ → Type 0
+CedarWritesLines block text r after = returned r after ≡ converted (to_lines block text)
 
--- `cedar_judge_lines` and `cedar_judge_blocked_lines`
-abbrev pub CedarJudgesLines : Form → List ℕ → ℕ → Type 0
-CedarJudgesLines f text r = r ≡ packed_of (judge_lines_answer f text)
+-- `cedar_judge_lines`
+abbrev pub CedarJudgesLines : List ℕ → ℕ → Type 0
+CedarJudgesLines text r = r ≡ packed_of (judge_lines_answer text)
 
--- `cedar_write_block` and `cedar_write_block_from_blocked`, and the block afterwards
-abbrev pub CedarWritesBlock : Form → List ℕ → List ℕ → ℕ → List ℕ → Type 0
-CedarWritesBlock f text block r after = returned r after ≡ converted (write_block f text block)
+-- `cedar_write_block`, and the block afterwards
+abbrev pub CedarWritesBlock : List ℕ → List ℕ → ℕ → List ℕ → Type 0
+CedarWritesBlock text block r after = returned r after ≡ converted (write_block text block)
 
 -- `cedar_sheet_start`, and the sheet afterwards
 abbrev pub CedarStartsSheet : List ℕ → ℕ → List ℕ → Type 0

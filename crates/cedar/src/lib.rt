@@ -1,9 +1,7 @@
 // The calls for C, and nothing else: each returns its answer's four numbers as one.
 ghost use Rattle.std.specs.Prelude.{[], ◌∷◌};
-ghost use Rattle.line_form.specs.declared.Form.TheVariants.{Unblocked, Blocked};
 ghost use Rattle.cedar.specs.Promises.{CedarJudges, CedarFindsPrefix, CedarWritesLines, CedarJudgesLines, CedarWritesBlock, CedarStartsSheet, CedarAmends, CedarUndoes, CedarRepacks};
 
-use line_form::Form;
 use sheet::Amendment;
 
 // uint64_t cedar_judge(const uint8_t *block, size_t length);
@@ -24,76 +22,31 @@ pub extern "C" fn cedar_prefix(instrument: u16) -> u64
     units::pack(prefix::numbers(letters))
 }
 
-// Block to lines of this form.
-fn write_lines(form: Form, block: &[u8], text: &mut [u8]) -> u64
-    ensures { CedarWritesLines form block.now text.old result text.new }
-{
-    let lined = write_lines::to_lines(form, block, text);
-    units::pack(write_lines::numbers(lined))
-}
-
-// Judges lines of this form.
-fn judge_lines(form: Form, text: &[u8]) -> u64
-    ensures { CedarJudgesLines form text.now result }
-{
-    let judged = read_text::judge_lines(form, text);
-    units::pack(read_text::judged_numbers(judged))
-}
-
-// Lines of this form to block.
-fn write_block(form: Form, text: &[u8], block: &mut [u8]) -> u64
-    ensures { CedarWritesBlock form text.now block.old result block.new }
-{
-    let built = read_text::write_block(form, text, block);
-    units::pack(read_text::built_numbers(built))
-}
-
 // uint64_t cedar_to_lines(const uint8_t *block, size_t block_length, uint8_t *text, size_t text_length);
 #[unsafe(no_mangle)]
 pub extern "C" fn cedar_to_lines(block: &[u8], text: &mut [u8]) -> u64
-    ensures { CedarWritesLines Unblocked block.now text.old result text.new }
+    ensures { CedarWritesLines block.now text.old result text.new }
 {
-    write_lines(Form::Unblocked, block, text)
-}
-
-// uint64_t cedar_to_blocked_lines(const uint8_t *block, size_t block_length, uint8_t *text, size_t text_length);
-#[unsafe(no_mangle)]
-pub extern "C" fn cedar_to_blocked_lines(block: &[u8], text: &mut [u8]) -> u64
-    ensures { CedarWritesLines Blocked block.now text.old result text.new }
-{
-    write_lines(Form::Blocked, block, text)
+    let lined = write_lines::to_lines(block, text);
+    units::pack(write_lines::numbers(lined))
 }
 
 // uint64_t cedar_judge_lines(const uint8_t *text, size_t text_length);
 #[unsafe(no_mangle)]
 pub extern "C" fn cedar_judge_lines(text: &[u8]) -> u64
-    ensures { CedarJudgesLines Unblocked text.now result }
+    ensures { CedarJudgesLines text.now result }
 {
-    judge_lines(Form::Unblocked, text)
-}
-
-// uint64_t cedar_judge_blocked_lines(const uint8_t *text, size_t text_length);
-#[unsafe(no_mangle)]
-pub extern "C" fn cedar_judge_blocked_lines(text: &[u8]) -> u64
-    ensures { CedarJudgesLines Blocked text.now result }
-{
-    judge_lines(Form::Blocked, text)
+    let judged = read_text::judge_lines(text);
+    units::pack(read_text::judged_numbers(judged))
 }
 
 // uint64_t cedar_write_block(const uint8_t *text, size_t text_length, uint8_t *block, size_t block_length);
 #[unsafe(no_mangle)]
 pub extern "C" fn cedar_write_block(text: &[u8], block: &mut [u8]) -> u64
-    ensures { CedarWritesBlock Unblocked text.now block.old result block.new }
+    ensures { CedarWritesBlock text.now block.old result block.new }
 {
-    write_block(Form::Unblocked, text, block)
-}
-
-// uint64_t cedar_write_block_from_blocked(const uint8_t *text, size_t text_length, uint8_t *block, size_t block_length);
-#[unsafe(no_mangle)]
-pub extern "C" fn cedar_write_block_from_blocked(text: &[u8], block: &mut [u8]) -> u64
-    ensures { CedarWritesBlock Blocked text.now block.old result block.new }
-{
-    write_block(Form::Blocked, text, block)
+    let built = read_text::write_block(text, block);
+    units::pack(read_text::built_numbers(built))
 }
 
 // uint64_t cedar_sheet_start(uint8_t *sheet, size_t length);

@@ -28,7 +28,7 @@ use Rattle.write_lines.specs.declared.Lined.TheVariants.{Text}
 use Rattle.write_lines.specs.declared.Lined.TheVariants as lines
 use Rattle.write_lines.specs.Cases.{lined_of}
 use Rattle.read_columns.specs.declared.Flaw.{Flaw}
-use Rattle.read_columns.specs.declared.Flaw.TheVariants.{Byte, NoRecord, Field, Count, Ends, NotBlank, Range, Much, Long, NotBlocked}
+use Rattle.read_columns.specs.declared.Flaw.TheVariants.{Byte, NoRecord, Field, Count, Ends, NotBlank, Range, Much, Long}
 use Rattle.read_columns.specs.declared.Flaw.TheVariants as columns
 use Rattle.read_text.specs.declared.Judged as looked
 use Rattle.read_text.specs.declared.Judged.TheVariants as text
@@ -136,8 +136,7 @@ built_case r =
     else if eqb r.n 27 then built.Refused (Range line column)
     else if eqb r.n 28 then built.Refused (Much line)
     else if eqb r.n 29 then built.Short (record { 0 = r.a })
-    else if eqb r.n 30 then built.Refused Long
-    else built.Refused NotBlocked
+    else built.Refused Long
 
 built_back : (b : Built) → built_case (built_of b) ≡ b
 unfolding built_case
@@ -153,7 +152,6 @@ built_back (built.Refused (NotBlank line column)) = refl
 built_back (built.Refused (Range line column)) = refl
 built_back (built.Refused (Much line)) = refl
 built_back (built.Refused Long) = refl
-built_back (built.Refused NotBlocked) = refl
 
 -- the refusal in it
 flaw_in : Built → Flaw
@@ -273,13 +271,13 @@ written_agree : {R : Type 0} (of : R → Answer) (case : Answer → R) → ((r :
 written_agree of case back o r s t u p q = let e = same p q in (by_case of case back r s (ap (λ w. w.answer) e), ap (λ w. w.out) e)
 
 pub lines_agree : LinesAgree
-lines_agree f block text r s t u p q = written_agree lined_of lined_case lined_back (to_lines f block text) r s t u p.outcome q.outcome
+lines_agree block text r s t u p q = written_agree lined_of lined_case lined_back (to_lines block text) r s t u p.outcome q.outcome
 
 pub judge_lines_agrees : JudgeLinesAgrees
-judge_lines_agrees f lines r s p q = by_case looking.judged_of size_case size_back r s (same p.outcome q.outcome)
+judge_lines_agrees lines r s p q = by_case looking.judged_of size_case size_back r s (same p.outcome q.outcome)
 
 pub block_agrees : BlockAgrees
-block_agrees f text block r s t u p q = written_agree built_of built_case built_back (write_block f text block) r s t u p.outcome q.outcome
+block_agrees text block r s t u p q = written_agree built_of built_case built_back (write_block text block) r s t u p.outcome q.outcome
 
 pub open_agrees : OpenAgrees
 open_agrees sheet r s p q = by_case (λ o. answered (opened_of o)) opened_case opened_back r s (ap answered (same p q))
@@ -313,13 +311,13 @@ returned_agree : (o : Returned) → FixesOne (λ r t. returned r t ≡ o)
 returned_agree o r s t u p q = let e = same p q in (ap (λ w. w.number) e, ap (λ w. w.out) e)
 
 pub cedar_lines_agree : CedarLinesAgree
-cedar_lines_agree f block text = returned_agree (converted (to_lines f block text))
+cedar_lines_agree block text = returned_agree (converted (to_lines block text))
 
 pub cedar_judge_lines_agrees : CedarJudgeLinesAgrees
-cedar_judge_lines_agrees f lines r s p q = same p q
+cedar_judge_lines_agrees lines r s p q = same p q
 
 pub cedar_block_agrees : CedarBlockAgrees
-cedar_block_agrees f text block = returned_agree (converted (write_block f text block))
+cedar_block_agrees text block = returned_agree (converted (write_block text block))
 
 pub cedar_start_agrees : CedarStartAgrees
 cedar_start_agrees sheet = returned_agree (converted (started version1 sheet))

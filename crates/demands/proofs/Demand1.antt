@@ -104,9 +104,9 @@ kept n out (passed bytes) h = by (written_either n out bytes) h
 
 pub lines_answers : LinesAnswers
 unfolding to_lines
-lines_answers f block text bytes =
-    let t = outcome_told f block text bytes in
-    ((t.0, taken_apart_lem (to_lines f block text).answer t.1), kept 29 text (onward (judged block) (λ _. passed (text_of f (records_of block)))))
+lines_answers block text bytes =
+    let t = outcome_told block text bytes in
+    ((t.0, taken_apart_lem (to_lines block text).answer t.1), kept 29 text (onward (judged block) (λ _. passed (text_of (records_of block)))))
 
 pub repack_answers : RepackAnswers
 unfolding repack
@@ -115,17 +115,17 @@ repack_answers slice out bytes =
     ((t.0, taken_apart_lem (repack slice out).answer t.1), kept 50 out (onward (blocks_in slice) (λ blocks. passed (repacked (records_in blocks)))))
 
 pub judge_lines_answers : JudgeLinesAnswers
-judge_lines_answers f text = by (judge_lines f text) (size_known f text)
+judge_lines_answers text = by (judge_lines text) (size_known text)
   where
-    by : (v : Verdict ℕ) → Known (TextRow f) (λ size. size ≤ 16000) v → Judgement (TextRow f) v
+    by : (v : Verdict ℕ) → Known TextRow (λ size. size ≤ 16000) v → Judgement TextRow v
     by (passed size) h = taken_apart_lem (answer 0 size 0 0) (omega (arith, h))
     by (refused r) h = (h.listed, taken_apart_lem r h.packs)
 
 pub block_answers : BlockAnswers
 unfolding write_block
-block_answers f text block =
-    let t = answer_told f text block in
-    ((t.listed, taken_apart_lem (write_block f text block).answer t.packs), kept 29 block (block_in f text))
+block_answers text block =
+    let t = answer_told text block in
+    ((t.listed, taken_apart_lem (write_block text block).answer t.packs), kept 29 block (block_in text))
 
 -- ---- the calls on a sheet, and on a block and its sheet: rows 40 to 46
 
@@ -239,13 +239,13 @@ tells_written : (w : Written) (r : ℕ) (after : List ℕ) → Unpacks w.answer 
 tells_written w r after u p = (ap (λ x. taken_apart x.number) p ∙ u, ap (λ x. x.out) p)
 
 pub cedar_lines_tell : CedarLinesTell
-cedar_lines_tell f block text after r bytes = tells_written (to_lines f block text) r after (lines_answers f block text bytes).0.1
+cedar_lines_tell block text after r bytes = tells_written (to_lines block text) r after (lines_answers block text bytes).0.1
 
 pub cedar_judge_lines_tells : CedarJudgeLinesTells
-cedar_judge_lines_tells f text r p = ap taken_apart p ∙ judgement_unpacks (TextRow f) (judge_lines f text) (judge_lines_answers f text)
+cedar_judge_lines_tells text r p = ap taken_apart p ∙ judgement_unpacks TextRow (judge_lines text) (judge_lines_answers text)
 
 pub cedar_block_tells : CedarBlockTells
-cedar_block_tells f text block after r = tells_written (write_block f text block) r after (block_answers f text block).0.1
+cedar_block_tells text block after r = tells_written (write_block text block) r after (block_answers text block).0.1
 
 pub cedar_repack_tells : CedarRepackTells
 cedar_repack_tells blocks out after r bytes = tells_written (repack blocks out) r after (repack_answers blocks out bytes).0.1

@@ -15,7 +15,6 @@ use Rattle.block.specs.Judging.{judged}
 use Rattle.block.specs.Records.{records_of}
 use Rattle.block.specs.Rules.{block_of, IsBlock}
 use Rattle.block.proofs.Exact.{only_good, every_good, its_records}
-use Rattle.line_form.specs.declared.Form.TheVariants.{Unblocked}
 use Rattle.write_lines.specs.Text.{text_of}
 use Rattle.write_lines.proofs.Outcome.{when_accepted}
 use Rattle.sheet.specs.Sheets.{Layout, Entry, version1, sheet_of}
@@ -109,7 +108,7 @@ module _ (y : Layout) (rs : List (List ℕ)) (good : IsBlock (block_of rs) rs) w
   step es h (prints text) is =
       let b = block_of (put_in rs es) in (
         ap (λ w. record { answer = w.answer; block = b; sheet = sheet_of y es; out = w.out })
-            (when_accepted Unblocked b text (length rs) (still-judged es h) ∙ ap (λ qs. written 29 text (passed (text_of Unblocked qs))) (its_records b (put_in rs es) (still-block es h))),
+            (when_accepted b text (length rs) (still-judged es h) ∙ ap (λ qs. written 29 text (passed (text_of qs))) (its_records b (put_in rs es) (still-block es h))),
         h,
       )
 
@@ -255,6 +254,6 @@ lines_differ y b k cs bytes accepted takes =
     let ps = put_in rs es in
     let l = left b k bytes accepted y cs takes in
     let s = l.1.stack in
-    let text : text_of Unblocked (records_of (left_by y (fresh y b) cs).block) ≡ text_of Unblocked ps =
-    ap (text_of Unblocked) (ap (λ q. records_of q.block) l.0 ∙ its_records (block_of ps) ps (still-block y rs good es l.1)) in
+    let text : text_of (records_of (left_by y (fresh y b) cs).block) ≡ text_of ps =
+    ap text_of (ap (λ q. records_of q.block) l.0 ∙ its_records (block_of ps) ps (still-block y rs good es l.1)) in
     rw text (stack_apart rs es good.each s, stack_shows rs es good.each s)

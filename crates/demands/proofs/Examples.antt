@@ -17,8 +17,7 @@ use Rattle.report.specs.Text.{bytes_from, behind, line_of}
 use Rattle.report.specs.Decimal.{decimal_of}
 use Rattle.report.specs.Refusal.{refusal_line}
 use Rattle.listed.specs.Listing.{signed_of, row_of, rows_of}
-use Rattle.line_form.specs.Form.{line_end, ended}
-use Rattle.write_parts.specs.Laid.{fields_of, laid}
+use Rattle.write_parts.specs.Laid.{fields_of, laid, ended}
 use Rattle.line_plan.specs.Plan.{part, times, plan}
 use Rattle.write_lines.specs.Lines.{lines_of}
 use Rattle.words.specs.Outcomes.{written}
@@ -35,7 +34,7 @@ use Rattle.repacking.specs.Repacking.{repack}
 use Rattle.demands.specs.Examples.{block_k, block_least, paper_rows, PaperRows, prefix_rows, PrefixRows, listing_rows, ListingRows, RepackedK, read_rows, ReadRows, written_rows, WrittenRows}
 
 pub paper_rows_lem : PaperRows
-unfolding paper_rows block_k block_least judged wrong_size walk judge_record judge_cards judge_content judge_data judge_counts in_range wrong_total under_least passing word_within words_of bytes_of xor_all ones ones_in records_of cut to_lines written text_of ended line_end lines_of laid plan part times fields_of field_of decimal line_count framed joined sheet_of sheet_with entries_of entries opened broken all_zero is_value no_record with_value stands amendable undoable on_both number read_field columns bytes_from
+unfolding paper_rows block_k block_least judged wrong_size walk judge_record judge_cards judge_content judge_data judge_counts in_range wrong_total under_least passing word_within words_of bytes_of xor_all ones ones_in records_of cut to_lines written text_of ended lines_of laid plan part times fields_of field_of decimal line_count framed joined sheet_of sheet_with entries_of entries opened broken all_zero is_value no_record with_value stands amendable undoable on_both number read_field columns bytes_from
 paper_rows_lem = refl
 
 pub prefix_rows_lem : PrefixRows

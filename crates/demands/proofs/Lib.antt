@@ -4,7 +4,6 @@ pub mod Sheets
 pub mod Demand3
 pub mod WholeFiles
 pub mod LookBeforeYouWrite
-pub mod BlockedLines
 pub mod TakenFor
 pub mod Records
 pub mod Lines
@@ -16,9 +15,6 @@ pub mod FirstLine
 pub mod Gathered
 pub mod Sound
 pub mod Texts
-pub mod Filled
-pub mod Cut
-pub mod BadBytes
 pub mod Standard
 pub mod Values
 pub mod Stack

@@ -16,7 +16,6 @@ use Rattle.block.specs.Records.{records_of}
 use Rattle.block.proofs.Known.{judged_known}
 use Rattle.block_slice.specs.Blocks.{blocks_in, records_in}
 use Rattle.packing.specs.Packing.{repacked}
-use Rattle.line_form.specs.declared.Form.TheVariants.{Unblocked}
 use Rattle.write_lines.specs.Text.{text_of, to_lines}
 use Rattle.read_records.specs.Reading.{read_text}
 use Rattle.read_text.specs.Block.{judge_lines, write_block}
@@ -53,11 +52,11 @@ blocks_written blocks out = printed_written out (blocks_printed blocks)
 pub tested_first : TestedFirst
 tested_first text = (refusals, sizes)
   where
-    refusals : (r : Answer) → judge_lines Unblocked text ≡ refused r → (size_printed text ≡ refusal_line r) × (block_printed text ≡ refusal_line r)
-    refusals r e = (ap (or_refusal (λ n. line_of (decimal_of n ∷ []))) e, ap (or_refusal block_from) (refused_read Unblocked text r e))
+    refusals : (r : Answer) → judge_lines text ≡ refused r → (size_printed text ≡ refusal_line r) × (block_printed text ≡ refusal_line r)
+    refusals r e = (ap (or_refusal (λ n. line_of (decimal_of n ∷ []))) e, ap (or_refusal block_from) (refused_read text r e))
 
-    sizes : (size : ℕ) → judge_lines Unblocked text ≡ passed size → (size_printed text ≡ line_of (decimal_of size ∷ [])) × (length (block_printed text) ≡ size)
-    sizes size e = let j = judged_read Unblocked text size e in (ap (or_refusal (λ n. line_of (decimal_of n ∷ []))) e, ap (λ v. length (or_refusal block_from v)) j.1 ∙ j.2)
+    sizes : (size : ℕ) → judge_lines text ≡ passed size → (size_printed text ≡ line_of (decimal_of size ∷ [])) × (length (block_printed text) ≡ size)
+    sizes size e = let j = judged_read text size e in (ap (or_refusal (λ n. line_of (decimal_of n ∷ []))) e, ap (λ v. length (or_refusal block_from v)) j.1 ∙ j.2)
 
 -- ---- what the calls give
 
@@ -73,11 +72,11 @@ judge_row b h r e z = omega (arith, (rw e at (judged_known b h)).listed)
 
 pub lines_as_called : LinesAsCalled
 unfolding to_lines
-lines_as_called block out h room = as_called 29 (λ _. text_of Unblocked (records_of block)) out (judged block) (omega (arith, lines_bound block h)) (judge_row block h)
+lines_as_called block out h room = as_called 29 (λ _. text_of (records_of block)) out (judged block) (omega (arith, lines_bound block h)) (judge_row block h)
 
 pub block_as_called : BlockAsCalled
 unfolding write_block
-block_as_called text out room = as_called 29 block_from out (read_text Unblocked text) (omega (arith, block_bound text)) (text_row text)
+block_as_called text out room = as_called 29 block_from out (read_text text) (omega (arith, block_bound text)) (text_row text)
 
 pub blocks_as_called : BlocksAsCalled
 unfolding repack

@@ -1,31 +1,28 @@
 -- An accepted text is one of good records, so what it becomes is an accepted block.
 use mathlib.Core.Path.{◌≡◌, refl, sym, ap, ◌∙◌}
-use mathlib.Core.Bool.{false, not}
 use mathlib.Core.List.{List, [], ◌∷◌, ◌++◌, append_assoc}
-use Prim.Native.Nat.{ℕ, suc, ◌+◌, ◌%◌, ◌^◌, ◌<◌}
+use Prim.Native.Nat.{ℕ, suc, ◌+◌, ◌^◌, ◌<◌}
 use native.Mathlib.Omega.{arith}
-use borrow.Author.Tests.{ltb-false, le-ltb, eqb-true, eq-eqb, not-false}
+use borrow.Author.Tests.{ltb-false}
 use lib.Dec.{ltb, eqb}
 use lib.ListN.{length}
 use Rattle.units.specs.Answers.{answer, Verdict, passed, refused, onward}
-use Rattle.units.proofs.Verdicts.{never_passed, else_passed, or_off}
+use Rattle.units.proofs.Verdicts.{never_passed, else_passed}
 use Rattle.words.specs.Words.{joined, All}
 use Rattle.words.proofs.Lists.{all_append}
 use Rattle.record.specs.Rules.{RecordOk}
 use Rattle.block.proofs.Exact.{some_record}
 use Rattle.units.specs.Units.{Line}
-use Rattle.line_form.specs.declared.Form.{Form}
-use Rattle.line_form.specs.declared.Form.TheVariants.{Unblocked, Blocked}
 use Rattle.read_cut.specs.Lines.{lines_in}
 use Rattle.read_first_line.specs.FirstLine.{Shape, Read}
 use Rattle.read_line.specs.Lines.{read_line, at_end, read_lines}
-use Rattle.read_records.specs.Reading.{size_row, bad_size, read_text}
+use Rattle.read_records.specs.Reading.{read_text}
 use Rattle.read_records.specs.Spelled.{Readable, Blanks, LinesSpell, no_lines, a_line, Spelled, at_end_lem, blank_line, a_record}
 use Rattle.units.proofs.Told.{Known}
-use Rattle.read_records.specs.Cases.{LineRow}
+use Rattle.read_records.specs.Cases.{TextRow}
 use Rattle.read_records.proofs.Opened.{words_to_come, Opens, skipped, opens, Given, Taken, line_known, RoomToCome}
-use Rattle.read_records.proofs.Known.{lines_most, size_most, room_on, words_room}
-use Rattle.demands.specs.Texts.{GoodSize, IsText}
+use Rattle.read_records.proofs.Known.{lines_most, room_on, words_room}
+use Rattle.demands.specs.Texts.{IsText}
 use Rattle.demands.proofs.Gathered.{done}
 
 -- ---- line after line
@@ -123,7 +120,7 @@ each_line num held rest (l ∷ ls) ws hn h e =
     last s g (passed vs) ih e = let words : ws ≡ s.words ++ vs = cc in rw words (line_before held l s ls vs g.readable (ih vs refl) rest g.given)
     last s g (refused r) ih e = absurd (never_passed e)
 
-    by : (v : Verdict Read) → Known LineRow (Taken held rest l) v
+    by : (v : Verdict Read) → Known TextRow (Taken held rest l) v
         → ((s : Read) → (vs : List ℕ) → suc num + length ls < 2 ^ 24 → RoomToCome (held + length s.words) s.rest → read_lines (suc num) (held + length s.words) s.rest ls ≡ passed vs → Behind s.rest ls vs)
         → onward v (λ s. onward (read_lines (suc num) (held + length s.words) s.rest ls) (λ vs. passed (s.words ++ vs))) ≡ passed ws → Behind rest (l ∷ ls) ws
     by (passed s) g ih e = last s g (read_lines (suc num) (held + length s.words) s.rest ls) (λ vs. ih s vs (omega arith) (room_on held rest l s h g.given)) e
@@ -131,26 +128,16 @@ each_line num held rest (l ∷ ls) ws hn h e =
 
 -- ---- a text
 
--- a length that is not refused is one that a text of this form may have, and such a length is not refused
-pub size_good : (f : Form) (n : ℕ) → bad_size f n ≡ false → GoodSize f n
-unfolding bad_size
-size_good Unblocked n e = ltb-false 65536 n e
-size_good Blocked n e = let o = or_off (not (eqb (n % 120) 0)) (ltb 960000 n) e in (eqb-true (n % 120) 0 (not-false _ o.0), ltb-false 960000 n o.1)
-
-pub good_size : (f : Form) (n : ℕ) → GoodSize f n → bad_size f n ≡ false
-unfolding bad_size
-good_size Unblocked n h = le-ltb 65536 n h
-good_size Blocked n h = simp (eq-eqb (n % 120) 0 h.0, le-ltb 960000 n h.1)
-
 -- an accepted text is one of good records, and its words are theirs
-pub its-text : (f : Form) (t ws : List ℕ) → read_text f t ≡ passed ws → (rs : List (List ℕ)) × IsText f t rs × (ws ≡ joined rs)
+pub its-text : (t ws : List ℕ) → read_text t ≡ passed ws → (rs : List (List ℕ)) × IsText t rs × (ws ≡ joined rs)
 unfolding read_text words_to_come
-its-text f t ws e =
-    let p = else_passed (bad_size f (length t)) (answer (size_row f) 0 0 0) _ ws e in
-    let w = none_left_whole (lines_in f t) ws (each_line 1 0 [] (lines_in f t) ws (omega (arith, lines_most f t, size_most f (length t) p.0)) (omega arith) p.1) in
-    let r = words_room f t ws e in
+its-text t ws e =
+    let p = else_passed (ltb 65536 (length t)) (answer 30 0 0 0) _ ws e in
+    let size = ltb-false 65536 (length t) p.0 in
+    let w = none_left_whole (lines_in t) ws (each_line 1 0 [] (lines_in t) ws (omega (arith, lines_most t)) (omega arith) p.1) in
+    let r = words_room t ws e in
     let l = ap length w.words in (
       w.records,
-      record { size = size_good f (length t) p.0; lines = w.readable; spelled = w.spelled; each = w.each; some = some_record w.records (omega arith); most = omega arith },
+      record { size = size; lines = w.readable; spelled = w.spelled; each = w.each; some = some_record w.records (omega arith); most = omega arith },
       w.words,
     )

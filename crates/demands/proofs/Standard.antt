@@ -1,7 +1,7 @@
 -- The standard lines spell the records that they are of, so they are read back.
 use mathlib.Core.Path.{◌≡◌, refl, sym, ap, ◌∙◌}
 use mathlib.Core.Logic.{inr}
-use mathlib.Core.List.{List, [], ◌∷◌, ◌++◌, map}
+use mathlib.Core.List.{List, [], ◌∷◌, ◌++◌, map, append_assoc}
 use Prim.Native.Nat.{ℕ, zero, suc, ◌+◌, ◌-◌, ◌*◌, ◌≤◌, ◌<◌}
 use native.Mathlib.Omega.{arith}
 use borrow.Author.Tests.{ne_eqb}
@@ -19,29 +19,21 @@ use Rattle.field.specs.Writing.{field_of, FieldByte, blank, minus, figure}
 use Rattle.field.specs.Reading.{columns}
 use Rattle.field.proofs.Written.{length_field_of, bytes_field_of, written_field}
 use Rattle.units.proofs.Choosing.{both_ways}
-use Rattle.write_parts.specs.Laid.{fields_of, laid, card_lines}
+use Rattle.write_parts.specs.Laid.{fields_of, laid, card_lines, ended}
 use Rattle.line_plan.specs.Plan.{data_plan, kind_shown, shown_words}
 use Rattle.units.specs.Units.{Line}
 use Rattle.write_parts.proofs.Turns.{length_fields_of}
 use Rattle.line_plan.proofs.Plans.{fields_in, fields_in-plan}
 use Rattle.write_lines.specs.Lines.{lines_of}
-use Rattle.write_lines.specs.Text.{text_of, all_lines}
-use Rattle.write_lines.proofs.Sizes.{record_sized, is_cards, cards-lines, data-lines, text_size_most, text_lines, all_short, blocked_size}
-use Rattle.line_form.specs.declared.Form.{Form}
-use Rattle.line_form.specs.declared.Form.TheVariants.{Unblocked, Blocked}
-use Rattle.read_cut.specs.Lines.{lines_in}
+use Rattle.write_lines.specs.Text.{text_of}
+use Rattle.write_lines.proofs.Sizes.{record_sized, is_cards, cards-lines, data-lines, text_size_most}
+use Rattle.read_cut.specs.Lines.{onto, lines_in, end_length}
 use Rattle.read_columns.proofs.Columns.{columns_full}
 use Rattle.read_first_line.specs.FirstLine.{card, fields}
-use Rattle.read_line.specs.Lines.{read_lines}
 use Rattle.read_records.specs.Reading.{read_text}
 use Rattle.read_records.specs.Spelled.{PlainByte, Readable, Blanks, Spells, SpellsAll, LineSpells, LinesSpell, no_lines, a_line, CardsSpelled, RecordSpelled, as_catalogue, as_header, as_data, Spelled, at_end_lem, a_record}
 use Rattle.demands.proofs.Lines.{line_width}
-use Rattle.read_records.proofs.Outcome.{line_by_line}
-use Rattle.demands.specs.Texts.{GoodSize}
-use Rattle.demands.specs.BlockedLines.{IsLine}
-use Rattle.demands.proofs.Cut.{plain_line_lem, lines_back}
-use Rattle.demands.proofs.Sound.{good_size}
-use Rattle.demands.proofs.Texts.{spelled_back}
+use Rattle.demands.proofs.Texts.{text_read}
 
 -- ---- the bytes of written lines
 
@@ -69,6 +61,21 @@ cards_plain : (n : ℕ) (ws : List ℕ) → All CardWord ws → All (All PlainBy
 unfolding card_lines
 cards_plain zero ws h = tt
 cards_plain (suc n) ws h = (card_plain (take 40 ws) (all_take CardWord 40 ws h), cards_plain n (drop 40 ws) (all_drop CardWord 40 ws h))
+
+-- ---- the lines of a text
+
+line-cut : (l t : List ℕ) → All PlainByte l → lines_in (l ++ 10 ∷ t) ≡ l ∷ lines_in t
+unfolding lines_in onto end_length
+line-cut [] t h = refl
+line-cut (b ∷ l) t h = simp (ne_eqb b 10 (λ e. omega (arith, h.0.least)), ne_eqb b 13 (λ e. omega (arith, h.0.least))) (ap (onto b) (line-cut l t h.1))
+
+lines_cut : (ls : List Line) (t : List ℕ) → All (All PlainByte) ls → lines_in (ended ls ++ t) ≡ ls ++ lines_in t
+unfolding ended
+lines_cut [] t h = refl
+lines_cut (l ∷ ls) t h =
+    ap lines_in (append_assoc l (10 ∷ ended ls) t)
+    ∙ line-cut l (ended ls ++ t) h.0
+    ∙ ap (λ ms. l ∷ ms) (lines_cut ls t h.1)
 
 -- ---- the words on a line of fields
 
@@ -208,32 +215,21 @@ all_readable (l ∷ ls) p w = (record { short = w.0; bytes = p.0 }, all_readable
 
 -- the lines of records are readable, and spell them
 record Standard (rs : List (List ℕ)) : Type 0 where
-  lines : All Readable (all_lines rs)
-  spelled : Spelled (all_lines rs) rs
+  lines : All Readable (lines_in (text_of rs))
+  spelled : Spelled (lines_in (text_of rs)) rs
 
 standard_lines : (rs : List (List ℕ)) → All RecordOk rs → Standard rs
-unfolding all_lines
+unfolding lines_in text_of
 standard_lines [] h = record { lines = tt; spelled = at_end_lem }
 standard_lines (r ∷ rs) h =
     let s = standard_lines rs h.1 in
+    let cut = lines_cut (lines_of r) (text_of rs) (lines_plain r h.0) in
     record {
-      lines = all_append Readable (lines_of r) (all_lines rs) (all_readable (lines_of r) (lines_plain r h.0) (line_width r h.0)) s.lines;
-      spelled = a_record (lines_spelled r h.0) s.spelled;
+      lines = rw cut (all_append Readable (lines_of r) (lines_in (text_of rs)) (all_readable (lines_of r) (lines_plain r h.0) (line_width r h.0)) s.lines);
+      spelled = rw cut (a_record (lines_spelled r h.0) s.spelled);
     }
 
--- so each is a line
-pub standard_are : (rs : List (List ℕ)) → All RecordOk rs → All IsLine (all_lines rs)
-standard_are rs h = all_map Readable IsLine plain_line_lem (all_lines rs) (standard_lines rs h).lines
-
--- their text has a length that is read
-good_length : (f : Form) (rs : List (List ℕ)) → All RecordOk rs → 1 ≤ length rs → length (joined rs) ≤ most_record_words → GoodSize f (length (text_of f rs))
-good_length Unblocked rs h some fits = omega (arith, text_size_most Unblocked rs h some)
-good_length Blocked rs h some fits = (omega (arith, blocked_size rs h), omega (arith, text_size_most Blocked rs h some))
-
-pub text_back : (f : Form) (rs : List (List ℕ)) → All RecordOk rs → 1 ≤ length rs → length (joined rs) ≤ most_record_words → read_text f (text_of f rs) ≡ passed (joined rs)
-text_back f rs h some fits =
+pub text_back : (rs : List (List ℕ)) → All RecordOk rs → 1 ≤ length rs → length (joined rs) ≤ most_record_words → read_text (text_of rs) ≡ passed (joined rs)
+text_back rs h some fits =
     let s = standard_lines rs h in
-    line_by_line f (text_of f rs) (good_size f (length (text_of f rs)) (good_length f rs h some fits))
-    ∙ ap (λ t. read_lines 1 0 [] (lines_in f t)) (text_lines f rs)
-    ∙ lines_back f 1 0 [] (all_lines rs) (standard_are rs h) (all_short rs h)
-    ∙ spelled_back 1 0 s.spelled s.lines h (omega (arith, fits)) (omega (arith, some))
+    text_read (text_of rs) rs (record { size = omega (arith, text_size_most rs h some); lines = s.lines; spelled = s.spelled; each = h; some = some; most = fits })

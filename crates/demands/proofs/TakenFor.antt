@@ -18,8 +18,7 @@ use Rattle.record.specs.Rules.{RecordOk, KindOk, catalogue, header, data_record}
 use Rattle.block.specs.Judging.{Accepted}
 use Rattle.block.specs.Records.{records_of}
 use Rattle.block.proofs.Exact.{only_good, ok_long}
-use Rattle.line_form.specs.declared.Form.TheVariants.{Unblocked}
-use Rattle.read_cut.specs.Lines.{onto, end_length, ended_lines, lines_in}
+use Rattle.read_cut.specs.Lines.{onto, end_length, lines_in}
 use Rattle.read_records.specs.Spelled.{PlainByte, Readable}
 use Rattle.read_text.specs.Block.{judge_lines}
 use Rattle.read_text.proofs.Outcome.{judged_read}
@@ -64,13 +63,13 @@ module _ (P : ℕ → Type 0) where
   onto-all b [] h = (h.0.0, tt)
   onto-all b (l ∷ ls) h = (h.0.0, (h.0.1, h.1))
 
-  all_bytes : ((b : ℕ) → (b ≡ 10) ⊎ (b ≡ 13) → P b) → (t : List ℕ) → All (All P) (ended_lines t) → All P t
-  unfolding ended_lines
+  all_bytes : ((b : ℕ) → (b ≡ 10) ⊎ (b ≡ 13) → P b) → (t : List ℕ) → All (All P) (lines_in t) → All P t
+  unfolding lines_in
   all_bytes ends [] h = tt
   all_bytes ends (b ∷ t) h =
-      by_test (λ ls. All (All P) ls → P b × All P t) (eqb (end_length (b ∷ t)) 0) (onto b (ended_lines t)) _
-      (λ _ g. let o = onto-all b (ended_lines t) g in (o.0, all_bytes ends t o.1))
-      (λ e g. (ends b (end_byte b t (eqb-false (end_length (b ∷ t)) 0 e)), all_bytes ends t (both_ways (λ ls. All (All P) ls → All (All P) (ended_lines t)) (eqb (end_length (b ∷ t)) 1) ([] ∷ ended_lines t) (ended_lines t) (λ x. x.1) (λ x. x) g)))
+      by_test (λ ls. All (All P) ls → P b × All P t) (eqb (end_length (b ∷ t)) 0) (onto b (lines_in t)) _
+      (λ _ g. let o = onto-all b (lines_in t) g in (o.0, all_bytes ends t o.1))
+      (λ e g. (ends b (end_byte b t (eqb-false (end_length (b ∷ t)) 0 e)), all_bytes ends t (both_ways (λ ls. All (All P) ls → All (All P) (lines_in t)) (eqb (end_length (b ∷ t)) 1) ([] ∷ lines_in t) (lines_in t) (λ x. x.1) (λ x. x) g)))
       h
 
 -- a plain byte is of a text, and so is a line end
@@ -90,12 +89,11 @@ end_of_text x e n = by e n
     by (inr e) (after_lf h k) = omega arith
     by (inr e) (after_cr h k) = omega arith
 
-text_bytes : (t : List ℕ) (size : ℕ) → judge_lines Unblocked t ≡ passed size → All (λ x. NotOfText x → ⊥) t
-unfolding lines_in
+text_bytes : (t : List ℕ) (size : ℕ) → judge_lines t ≡ passed size → All (λ x. NotOfText x → ⊥) t
 text_bytes t size e =
-    let w = judged_read Unblocked t size e in
-    let i = (its-text Unblocked t w.0 w.1).1 in
-    all_bytes (λ x. NotOfText x → ⊥) end_of_text t (all_map Readable (All (λ x. NotOfText x → ⊥)) (λ l r. all_map PlainByte (λ x. NotOfText x → ⊥) plain_of_text l r.bytes) (ended_lines t) i.lines)
+    let w = judged_read t size e in
+    let i = (its-text t w.0 w.1).1 in
+    all_bytes (λ x. NotOfText x → ⊥) end_of_text t (all_map Readable (All (λ x. NotOfText x → ⊥)) (λ l r. all_map PlainByte (λ x. NotOfText x → ⊥) plain_of_text l r.bytes) (lines_in t) i.lines)
 
 pub taken_for : TakenFor
 taken_for = (block_byte, text_bytes)

@@ -4,7 +4,7 @@ use mathlib.Core.Path.{◌≡◌, refl, sym, ap, ◌∙◌}
 use mathlib.Core.List.{List, [], ◌∷◌, ◌++◌, map}
 use Prim.Native.Nat.{ℕ, suc, ◌+◌, ◌-◌, ◌≤◌, min}
 use native.Mathlib.Omega.{arith}
-use borrow.Author.Tests.{ne_eqb}
+use borrow.Author.Tests.{le-ltb, ne_eqb}
 use lib.ListN.{length, take, drop, replicate, length-append, take-append-drop}
 use lib.Seq.{take_at, drop_at}
 use Rattle.units.specs.Answers.{passed}
@@ -17,17 +17,15 @@ use Rattle.block.proofs.Exact.{ok_long}
 use Rattle.field.proofs.Exact.{field_read, field_said}
 use Rattle.line_plan.specs.Plan.{data_plan, kind_shown, shown_words}
 use Rattle.units.specs.Units.{Line}
-use Rattle.line_form.specs.declared.Form.{Form}
 use Rattle.read_first_line.specs.FirstLine.{Shape, card, fields, gives}
 use Rattle.read_line.specs.Lines.{in_state, at_end, read_lines}
 use Rattle.read_records.specs.Reading.{read_text}
 use Rattle.read_records.specs.Spelled.{Readable, LineSpells, LinesSpell, a_line, RecordSpelled, as_catalogue, as_header, as_data, Spelled, at_end_lem, blank_line, a_record}
 use Rattle.read_records.proofs.Opened.{plan_turn}
-use Rattle.read_records.proofs.Outcome.{line_by_line}
 use Rattle.demands.specs.Texts.{FieldsExactly, IsText, TextsExactly}
 use Rattle.demands.proofs.Back.{ahead, line_back, skip_back, joins, lines_back}
 use Rattle.demands.proofs.FirstLine.{catalogue-given, header-given, data-given}
-use Rattle.demands.proofs.Sound.{good_size, its-text}
+use Rattle.demands.proofs.Sound.{its-text}
 
 -- ---- a record
 
@@ -98,7 +96,7 @@ record_back (a ∷ (b ∷ ws)) num held ms ls h fits r s = record-read num held 
 -- ---- a text
 
 -- some records, or records behind words that were read already
-pub spelled_back : {ls : List Line} {rs : List (List ℕ)} (num held : ℕ) → Spelled ls rs → All Readable ls → All RecordOk rs → held + length (joined rs) ≤ most_record_words → 1 ≤ held + length rs
+spelled_back : {ls : List Line} {rs : List (List ℕ)} (num held : ℕ) → Spelled ls rs → All Readable ls → All RecordOk rs → held + length (joined rs) ≤ most_record_words → 1 ≤ held + length rs
     → read_lines num held [] ls ≡ passed (joined rs)
 unfolding read_lines at_end joined
 spelled_back num held at_end_lem r h fits some = simp (ne_eqb held 0 (λ e. omega arith))
@@ -110,12 +108,13 @@ spelled_back num held (a_record {r = q} {ms} {ls} {rs} k s) r h fits some =
     ∙ ap (ahead q) (spelled_back (num + length ms) (held + length q) s p.1 h.1 (omega arith) (omega (arith, ok_long q h.0)))
 
 -- every text of good records is accepted, and read as their words
-text_read : (f : Form) (t : List ℕ) (rs : List (List ℕ)) → IsText f t rs → read_text f t ≡ passed (joined rs)
-text_read f t rs g =
-    line_by_line f t (good_size f (length t) g.size) ∙ spelled_back 1 0 g.spelled g.lines g.each (omega (arith, g.most)) (omega (arith, g.some))
+pub text_read : (t : List ℕ) (rs : List (List ℕ)) → IsText t rs → read_text t ≡ passed (joined rs)
+unfolding read_text
+text_read t rs g =
+    simp (le-ltb 65536 (length t) g.size) (spelled_back 1 0 g.spelled g.lines g.each (omega (arith, g.most)) (omega (arith, g.some)))
 
 pub fields_exactly : FieldsExactly
 fields_exactly bs w = (λ e. field_said e, λ f. field_read f)
 
 pub texts_exactly : TextsExactly
-texts_exactly f t ws = (λ e. its-text f t ws e, λ g. text_read f t g.0 g.1 ∙ ap (λ l. passed l) (sym g.2))
+texts_exactly t ws = (λ e. its-text t ws e, λ g. text_read t g.0 g.1 ∙ ap (λ l. passed l) (sym g.2))

@@ -4,7 +4,6 @@ use Rattle.words.specs.Writing.{Put}
 use Rattle.block.specs.Promises.{Judges}
 use Rattle.block_steps.specs.Promises.{StepsTo, FindsRecord}
 use Rattle.prefix.specs.Promises.{FindsPrefix}
-use Rattle.line_form.specs.declared.Form.{Form}
 use Rattle.write_lines.specs.Promises.{WritesLines}
 use Rattle.read_text.specs.Promises.{JudgesLines, WritesBlock}
 use Rattle.sheet.specs.Sheets.{Entry}
@@ -57,15 +56,15 @@ PrefixAgrees = (instrument : ℕ) → Fixes (FindsPrefix instrument)
 
 -- `write_lines::to_lines`
 abbrev pub LinesAgree : Type 0
-LinesAgree = (f : Form) (block text : List ℕ) → FixesOne (WritesLines f block text)
+LinesAgree = (block text : List ℕ) → FixesOne (WritesLines block text)
 
 -- `read_text::judge_lines`
 abbrev pub JudgeLinesAgrees : Type 0
-JudgeLinesAgrees = (f : Form) (text : List ℕ) → Fixes (JudgesLines f text)
+JudgeLinesAgrees = (text : List ℕ) → Fixes (JudgesLines text)
 
 -- `read_text::write_block`
 abbrev pub BlockAgrees : Type 0
-BlockAgrees = (f : Form) (text block : List ℕ) → FixesOne (WritesBlock f text block)
+BlockAgrees = (text block : List ℕ) → FixesOne (WritesBlock text block)
 
 -- `sheet::open`
 abbrev pub OpenAgrees : Type 0
@@ -97,17 +96,17 @@ CedarJudgeAgrees = (block : List ℕ) → Fixes (CedarJudges block)
 abbrev pub CedarPrefixAgrees : Type 0
 CedarPrefixAgrees = (instrument : ℕ) → Fixes (CedarFindsPrefix instrument)
 
--- `cedar_to_lines` and `cedar_to_blocked_lines`
+-- `cedar_to_lines`
 abbrev pub CedarLinesAgree : Type 0
-CedarLinesAgree = (f : Form) (block text : List ℕ) → FixesOne (CedarWritesLines f block text)
+CedarLinesAgree = (block text : List ℕ) → FixesOne (CedarWritesLines block text)
 
--- `cedar_judge_lines` and `cedar_judge_blocked_lines`
+-- `cedar_judge_lines`
 abbrev pub CedarJudgeLinesAgrees : Type 0
-CedarJudgeLinesAgrees = (f : Form) (text : List ℕ) → Fixes (CedarJudgesLines f text)
+CedarJudgeLinesAgrees = (text : List ℕ) → Fixes (CedarJudgesLines text)
 
--- `cedar_write_block` and `cedar_write_block_from_blocked`
+-- `cedar_write_block`
 abbrev pub CedarBlockAgrees : Type 0
-CedarBlockAgrees = (f : Form) (text block : List ℕ) → FixesOne (CedarWritesBlock f text block)
+CedarBlockAgrees = (text block : List ℕ) → FixesOne (CedarWritesBlock text block)
 
 -- `cedar_sheet_start`
 abbrev pub CedarStartAgrees : Type 0

@@ -9,7 +9,6 @@ use Rattle.words.specs.Words.{Below}
 use Rattle.words.specs.Outcomes.{Written}
 use Rattle.block.specs.Cases.{BlockRow}
 use Rattle.block.specs.Judging.{judged}
-use Rattle.line_form.specs.declared.Form.{Form}
 use Rattle.write_lines.specs.Cases.{LinesRow}
 use Rattle.write_lines.specs.Text.{to_lines}
 use Rattle.read_records.specs.Cases.{TextRow}
@@ -47,17 +46,17 @@ Writes Row before w = Numbered Row w.answer × ((w.answer.n ≡ 0 → ⊥) → w
 abbrev pub JudgeAnswers : Type 0
 JudgeAnswers = (block : List ℕ) → Below 256 block → Judgement BlockRow (judged block)
 
--- "To lines: the block, then 29", in either form
+-- "To lines: the block, then 29"
 abbrev pub LinesAnswers : Type 0
-LinesAnswers = (f : Form) (block text : List ℕ) → Below 256 block → Writes LinesRow text (to_lines f block text)
+LinesAnswers = (block text : List ℕ) → Below 256 block → Writes LinesRow text (to_lines block text)
 
--- "Order for text: 30, then line by line ... At the end 21"; document 02, request 2: "Judging gives every text refusal but 29"; request 3: of blocked lines 60, and never 30
+-- "Order for text: 30, then line by line ... At the end 21"; document 02, request 2: "Judging gives every text refusal but 29"
 abbrev pub JudgeLinesAnswers : Type 0
-JudgeLinesAnswers = (f : Form) (text : List ℕ) → Judgement (TextRow f) (judge_lines f text)
+JudgeLinesAnswers = (text : List ℕ) → Judgement TextRow (judge_lines text)
 
 -- "writing gives all of them in 01's order": "then 29"
 abbrev pub BlockAnswers : Type 0
-BlockAnswers = (f : Form) (text block : List ℕ) → Writes (WriteRow f) block (write_block f text block)
+BlockAnswers = (text block : List ℕ) → Writes WriteRow block (write_block text block)
 
 -- document 02, request 1: "52 ... first of all; then block by block 51 ... before the block's own refusals"; "50 ... last of all"
 abbrev pub RepackAnswers : Type 0
@@ -116,17 +115,17 @@ CedarPrefixTells = (instrument r : ℕ) → CedarFindsPrefix instrument r → Te
 abbrev pub TellsWritten : Written → ℕ → List ℕ → Type 0
 TellsWritten w r after = Tells r w.answer × (after ≡ w.out)
 
--- `cedar_to_lines` and `cedar_to_blocked_lines`
+-- `cedar_to_lines`
 abbrev pub CedarLinesTell : Type 0
-CedarLinesTell = (f : Form) (block text after : List ℕ) (r : ℕ) → Below 256 block → CedarWritesLines f block text r after → TellsWritten (to_lines f block text) r after
+CedarLinesTell = (block text after : List ℕ) (r : ℕ) → Below 256 block → CedarWritesLines block text r after → TellsWritten (to_lines block text) r after
 
--- `cedar_judge_lines` and `cedar_judge_blocked_lines`
+-- `cedar_judge_lines`
 abbrev pub CedarJudgeLinesTells : Type 0
-CedarJudgeLinesTells = (f : Form) (text : List ℕ) (r : ℕ) → CedarJudgesLines f text r → Tells r (answered (judge_lines f text))
+CedarJudgeLinesTells = (text : List ℕ) (r : ℕ) → CedarJudgesLines text r → Tells r (answered (judge_lines text))
 
--- `cedar_write_block` and `cedar_write_block_from_blocked`
+-- `cedar_write_block`
 abbrev pub CedarBlockTells : Type 0
-CedarBlockTells = (f : Form) (text block after : List ℕ) (r : ℕ) → CedarWritesBlock f text block r after → TellsWritten (write_block f text block) r after
+CedarBlockTells = (text block after : List ℕ) (r : ℕ) → CedarWritesBlock text block r after → TellsWritten (write_block text block) r after
 
 -- `cedar_sheet_start`
 abbrev pub CedarStartTells : Type 0

@@ -1,15 +1,13 @@
 -- Demand 2: a block is accepted exactly when its length word, checksum and records hold and the records fill it.
 -- Block to lines to block is the identity, and accepted lines to block and back become the one standard set of lines.
-use Rattle.std.specs.Prelude.{◌↔◌, ◌≡◌, List, ◌++◌, ℕ, ◌≤◌, ◌<◌, length, take, drop}
-use Rattle.units.specs.declared.Answer.{Answer}
-use Rattle.units.specs.Answers.{answer, passed, refused}
+use Rattle.std.specs.Prelude.{◌↔◌, ◌≡◌, List, ◌++◌, ℕ, ◌≤◌, length, take, drop}
+use Rattle.units.specs.Answers.{answer, passed}
 use Rattle.words.specs.Words.{joined, All, Below, most_record_words, block_from}
 use Rattle.words.specs.Outcomes.{Written, leaves}
 use Rattle.record.specs.Rules.{RecordOk}
 use Rattle.block.specs.Judging.{judged, Accepted}
 use Rattle.block.specs.Records.{records_of}
 use Rattle.block.specs.Rules.{IsBlock}
-use Rattle.line_form.specs.declared.Form.{Form}
 use Rattle.write_lines.specs.Text.{text_of, to_lines}
 use Rattle.read_records.specs.Reading.{read_text}
 use Rattle.read_text.specs.Block.{judge_lines, write_block}
@@ -35,63 +33,53 @@ bytes_in w = take w.answer.a w.out
 abbrev pub wrote : List ℕ → List ℕ → Written
 wrote bytes out = leaves (answer 0 (length bytes) 0 0) (bytes ++ drop (length bytes) out)
 
--- the lines, of this form, of the block that the words of a text make
-abbrev pub standard : Form → List ℕ → List ℕ
-standard f ws = text_of f (records_of (block_from ws))
+-- the lines of the block that the words of a text make
+abbrev pub standard : List ℕ → List ℕ
+standard ws = text_of (records_of (block_from ws))
 
--- the lines of good records, of either form, are read as the records' words
+-- the lines of good records are read as the records' words
 abbrev pub LinesRead : Type 0
-LinesRead =
-    (f : Form) (rs : List (List ℕ)) → All RecordOk rs → 1 ≤ length rs → length (joined rs) ≤ most_record_words →
-    read_text f (text_of f rs) ≡ passed (joined rs)
+LinesRead = (rs : List (List ℕ)) → All RecordOk rs → 1 ≤ length rs → length (joined rs) ≤ most_record_words → read_text (text_of rs) ≡ passed (joined rs)
 
--- block to lines, of either form, to block is the identity: judging the lines gives the block's size, and writing gives the block
+-- block to lines to block is the identity: judging the lines gives the block's size, and writing gives the block
 abbrev pub BlockLinesBlock : Type 0
 BlockLinesBlock =
-    (f : Form) (b text out : List ℕ) → Below 256 b → Accepted b → length (text_of f (records_of b)) ≤ length text → length b ≤ length out →
-    let lines = to_lines f b text in
-    (lines ≡ wrote (text_of f (records_of b)) text) × (judge_lines f (bytes_in lines) ≡ passed (length b)) × (write_block f (bytes_in lines) out ≡ wrote b out)
-
--- what is not written: of a bad block its own refusal is told; of a good one "output shorter than needed", with the bytes that its lines have
-abbrev pub LinesRefused : Type 0
-LinesRefused =
-    (f : Form) (b text : List ℕ) →
-    ((r : Answer) → judged b ≡ refused r → to_lines f b text ≡ leaves r text)
-    × (let n = length (text_of f (records_of b)) in Accepted b → length text < n → to_lines f b text ≡ leaves (answer 29 n 0 0) text)
+    (b text out : List ℕ) → Below 256 b → Accepted b → length (text_of (records_of b)) ≤ length text → length b ≤ length out →
+    let lines = to_lines b text in
+    (lines ≡ wrote (text_of (records_of b)) text) × (judge_lines (bytes_in lines) ≡ passed (length b)) × (write_block (bytes_in lines) out ≡ wrote b out)
 
 -- what an accepted text becomes is a good block, and the judge accepts it, with the number of its records
 abbrev pub TextGivesBlock : Type 0
 TextGivesBlock =
-    (f : Form) (t ws : List ℕ) → read_text f t ≡ passed ws →
+    (t ws : List ℕ) → read_text t ≡ passed ws →
     (rs : List (List ℕ)) × IsBlock (block_from ws) rs × (judged (block_from ws) ≡ passed (length rs))
 
 -- so the bytes that writing says it has written are there, and are a block that the judge accepts
 abbrev pub WrittenAccepted : Type 0
-WrittenAccepted = (f : Form) (t out : List ℕ) → let w = write_block f t out in w.answer.n ≡ 0 → (length (bytes_in w) ≡ w.answer.a) × Accepted (bytes_in w)
+WrittenAccepted = (t out : List ℕ) → let w = write_block t out in w.answer.n ≡ 0 → (length (bytes_in w) ≡ w.answer.a) × Accepted (bytes_in w)
 
--- accepted lines of one form to block and back to lines of the same or the other form become the standard lines; the size of both is judged as that of the block, and both give this block
+-- accepted lines to block and back become the standard lines; the size of both is judged as that of the block, and both give this block
 abbrev pub LinesBlockLines : Type 0
 LinesBlockLines =
-    (f g : Form) (t ws out text : List ℕ) → read_text f t ≡ passed ws → length (block_from ws) ≤ length out → length (standard g ws) ≤ length text →
-    let block = write_block f t out in
-    let lines = to_lines g (bytes_in block) text in
-    (judge_lines f t ≡ passed (length (block_from ws)))
+    (t ws out text : List ℕ) → read_text t ≡ passed ws → length (block_from ws) ≤ length out → length (standard ws) ≤ length text →
+    let block = write_block t out in
+    let lines = to_lines (bytes_in block) text in
+    (judge_lines t ≡ passed (length (block_from ws)))
     × (block ≡ wrote (block_from ws) out)
-    × (lines ≡ wrote (standard g ws) text)
-    × (judge_lines g (bytes_in lines) ≡ judge_lines f t)
-    × (write_block g (bytes_in lines) out ≡ block)
+    × (lines ≡ wrote (standard ws) text)
+    × (judge_lines (bytes_in lines) ≡ judge_lines t)
+    × (write_block (bytes_in lines) out ≡ block)
 
 -- the standard lines are accepted, and read as the same words
 abbrev pub StandardRead : Type 0
-StandardRead = (f g : Form) (t ws : List ℕ) → read_text f t ≡ passed ws → read_text g (standard g ws) ≡ passed ws
+StandardRead = (t ws : List ℕ) → read_text t ≡ passed ws → read_text (standard ws) ≡ passed ws
 
 -- so they are their own standard lines
 abbrev pub StandardStays : Type 0
-StandardStays =
-    (f g : Form) (t ws : List ℕ) → read_text f t ≡ passed ws → (vs : List ℕ) → read_text g (standard g ws) ≡ passed vs → standard g vs ≡ standard g ws
+StandardStays = (t ws : List ℕ) → read_text t ≡ passed ws → (vs : List ℕ) → read_text (standard ws) ≡ passed vs → standard vs ≡ standard ws
 
--- and there is one set of them, of each form, for each block: two accepted texts have the same where they make the same block, and only there
+-- and there is one set of them for each block: two accepted texts have the same where they make the same block, and only there
 abbrev pub OneStandard : Type 0
 OneStandard =
-    (f g h : Form) (t u ws vs : List ℕ) → read_text f t ≡ passed ws → read_text g u ≡ passed vs →
-    (block_from ws ≡ block_from vs) ↔ (standard h ws ≡ standard h vs)
+    (t u ws vs : List ℕ) → read_text t ≡ passed ws → read_text u ≡ passed vs →
+    (block_from ws ≡ block_from vs) ↔ (standard ws ≡ standard vs)

@@ -9,7 +9,6 @@ use Rattle.words.specs.Outcomes.{written}
 use Rattle.block.specs.Judging.{judged}
 use Rattle.block.specs.Records.{records_of}
 use Rattle.block.specs.Rules.{block_of}
-use Rattle.line_form.specs.declared.Form.TheVariants.{Unblocked}
 use Rattle.write_lines.specs.Text.{text_of, to_lines}
 use Rattle.write_lines.specs.Columns.{columns_before}
 use Rattle.sheet.specs.Sheets.{Layout, Entry, version1, sheet_of}
@@ -42,7 +41,7 @@ of_both a = record { answer = a.answer; block = a.block; sheet = a.sheet; out = 
 abbrev pub done : Layout → List ℕ → List ℕ → Call → Done
 done y block sheet (amends e) = of_both (amend y e block sheet)
 done y block sheet undoes = of_both (undo y block sheet)
-done y block sheet (prints text) = record { answer = (to_lines Unblocked block text).answer; block = block; sheet = sheet; out = (to_lines Unblocked block text).out }
+done y block sheet (prints text) = record { answer = (to_lines block text).answer; block = block; sheet = sheet; out = (to_lines block text).out }
 
 -- "in any sequence": each call finds what the one before it left
 abbrev pub done_all : Layout → List ℕ → List ℕ → List Call → List Done
@@ -91,7 +90,7 @@ abbrev pub modelled : Layout → List (List ℕ) → List Entry → Call → Mod
 modelled y rs es (amends e) = stacked es (amendable y e (both (put_in rs es) es))
 modelled y rs es undoes = stacked es (undoable (both (put_in rs es) es))
 modelled y rs es (prints text) =
-    let w = written 29 text (passed (text_of Unblocked (put_in rs es))) in record { answer = w.answer; stack = es; out = w.out }
+    let w = written 29 text (passed (text_of (put_in rs es))) in record { answer = w.answer; stack = es; out = w.out }
 
 -- and does, call by call
 abbrev pub modelled_all : Layout → List (List ℕ) → List Entry → List Call → List Modelled
@@ -163,14 +162,14 @@ LastStands =
 
 -- how many bytes of the text stand before the six columns of the number that an entry names: the records' before, and its own record's
 abbrev pub bytes_before : List (List ℕ) → Entry → ℕ
-bytes_before rs e = length (text_of Unblocked (take (record_number e - 1) rs)) + columns_before (record_in rs (record_number e)) (word_number e - 1)
+bytes_before rs e = length (text_of (take (record_number e - 1) rs)) + columns_before (record_in rs (record_number e)) (word_number e - 1)
 
 -- "its lines differ only in the amended six columns", which show the value that stands
 abbrev pub LinesDiffer : Type 0
 LinesDiffer =
     (y : Layout) (b : List ℕ) (k : ℕ) (cs : List Call) → Below 256 b → judged b ≡ passed k → All (Takes y) cs →
     let rs = records_of b in let es = stack_after y rs [] cs in
-    let first = text_of Unblocked rs in let text = text_of Unblocked (records_of (left_by y (fresh y b) cs).block) in
+    let first = text_of rs in let text = text_of (records_of (left_by y (fresh y b) cs).block) in
     SameAt (λ i. All (λ e. Outside i (bytes_before rs e)) es) text first
     × All (λ e. Shows text (bytes_before rs e) (found (put_in rs es) e)) es
 

@@ -9,7 +9,6 @@ use Rattle.words.specs.Outcomes.{leaves}
 use Rattle.block.specs.Judging.{judged}
 use Rattle.block.specs.Records.{records_of}
 use Rattle.write_lines.specs.Lines.{lines_of}
-use Rattle.line_form.specs.declared.Form.TheVariants.{Unblocked}
 use Rattle.write_lines.specs.Text.{to_lines}
 use Rattle.field.specs.Writing.{field_of}
 use Rattle.read_columns.specs.Columns.{number}
@@ -45,7 +44,7 @@ lines_found rs (refused r) = []
 
 -- what the definitions find of these bytes
 abbrev pub found_of : List ℕ → Found
-found_of b = record { judged_as = judge_answer b; lined_as = (to_lines Unblocked b []).answer; lines = lines_found (records_of b) (judged b) }
+found_of b = record { judged_as = judge_answer b; lined_as = (to_lines b []).answer; lines = lines_found (records_of b) (judged b) }
 
 -- the bytes of K, and of a sheet of `count` entries with these bytes: "Entries past the count are zero"
 abbrev pub bytes_k : List ℕ

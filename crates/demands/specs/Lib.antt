@@ -10,5 +10,4 @@ pub mod Sheets
 pub mod Demand3
 pub mod WholeFiles
 pub mod LookBeforeYouWrite
-pub mod BlockedLines
 pub mod Programs

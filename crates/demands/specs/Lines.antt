@@ -9,9 +9,7 @@ use Rattle.block.specs.Records.{records_of}
 use Rattle.block.specs.Rules.{block_of}
 use Rattle.field.specs.Writing.{field_of}
 use Rattle.write_lines.specs.Lines.{lines_of}
-use Rattle.line_form.specs.declared.Form.{Form}
-use Rattle.line_form.specs.declared.Form.TheVariants.{Unblocked}
-use Rattle.write_lines.specs.Text.{text_of, longest_text}
+use Rattle.write_lines.specs.Text.{text_of}
 use Rattle.write_lines.specs.Columns.{columns_before}
 
 -- "Field 1 is the record's line count": the lines are as many as the counts say
@@ -22,17 +20,17 @@ LineCount = (r : List ℕ) → RecordOk r → length (lines_of r) ≡ line_count
 abbrev pub LineWidth : Type 0
 LineWidth = (r : List ℕ) → RecordOk r → All (λ l. length l ≤ 120) (lines_of r)
 
--- "It is never longer than 55,971 bytes"; blocked, "up to 957,960 bytes"
+-- "It is never longer than 55,971 bytes"
 abbrev pub TextBound : Type 0
-TextBound = (f : Form) (b : List ℕ) → Below 256 b → Accepted b → length (text_of f (records_of b)) ≤ longest_text f
+TextBound = (b : List ℕ) → Below 256 b → Accepted b → length (text_of (records_of b)) ≤ 55971
 
 -- "reached by LPROL 16, JPAR 0, MPAR 1, NROW 7,981"
 unfoldable pub longest : List ℕ
 longest = 7998 ∷ 1002 ∷ replicate 10 0 ++ (16 ∷ 0 ∷ 1 ∷ 7981 ∷ replicate 7982 0)
 
--- a block of that record alone is accepted, and its text, of either form, has as many bytes
+-- a block of that record alone is accepted, and its text has as many bytes
 abbrev pub TextReached : Type 0
-TextReached = let b = block_of (longest ∷ []) in Accepted b × ((f : Form) → length (text_of f (records_of b)) ≡ longest_text f)
+TextReached = let b = block_of (longest ∷ []) in Accepted b × (length (text_of (records_of b)) ≡ 55971)
 
 -- ---- a word and its six columns
 
@@ -54,12 +52,12 @@ pub record SameAt (Here : ℕ → Type 0) (text first : List ℕ) : Type 0 where
 abbrev pub WordStands : Type 0
 WordStands =
     (before after : List (List ℕ)) (r : List ℕ) → RecordOk r → word r 2 ≡ 1002 → (j : ℕ) → 16 ≤ j → j < length r →
-    Shows (text_of Unblocked (before ++ r ∷ after)) (length (text_of Unblocked before) + columns_before r j) (get_or r j 0)
+    Shows (text_of (before ++ r ∷ after)) (length (text_of before) + columns_before r j) (get_or r j 0)
 
 -- where it is changed, they show the new word, and the text differs in them only
 abbrev pub SixColumns : Type 0
 SixColumns =
     (before after : List (List ℕ)) (r : List ℕ) → RecordOk r → word r 2 ≡ 1002 → (j v : ℕ) → 16 ≤ j → j < length r →
-    let first = text_of Unblocked (before ++ r ∷ after) in let text = text_of Unblocked (before ++ set r j v ∷ after) in
-    let at = length (text_of Unblocked before) + columns_before r j in
+    let first = text_of (before ++ r ∷ after) in let text = text_of (before ++ set r j v ∷ after) in
+    let at = length (text_of before) + columns_before r j in
     Shows text at v × SameAt (λ i. Outside i at) text first

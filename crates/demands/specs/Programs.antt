@@ -5,7 +5,6 @@ use Rattle.units.specs.declared.Answer.{Answer}
 use Rattle.units.specs.Answers.{passed, refused}
 use Rattle.words.specs.Words.{Below}
 use Rattle.words.specs.Outcomes.{Written}
-use Rattle.line_form.specs.declared.Form.TheVariants.{Unblocked}
 use Rattle.write_lines.specs.Text.{to_lines}
 use Rattle.read_text.specs.Block.{judge_lines, write_block}
 use Rattle.repacking.specs.Repacking.{repack}
@@ -42,8 +41,8 @@ BlocksWritten = (slice out after : List ℕ) (end : ℕ) → PrintsBlocks slice 
 abbrev pub TestedFirst : Type 0
 TestedFirst =
     (text : List ℕ) →
-    ((r : Answer) → judge_lines Unblocked text ≡ refused r → (size_printed text ≡ refusal_line r) × (block_printed text ≡ refusal_line r))
-    × ((size : ℕ) → judge_lines Unblocked text ≡ passed size → (size_printed text ≡ line_of (decimal_of size ∷ [])) × (length (block_printed text) ≡ size))
+    ((r : Answer) → judge_lines text ≡ refused r → (size_printed text ≡ refusal_line r) × (block_printed text ≡ refusal_line r))
+    × ((size : ℕ) → judge_lines text ≡ passed size → (size_printed text ≡ line_of (decimal_of size ∷ [])) × (length (block_printed text) ≡ size))
 
 -- ---- and that is what the program's call gives, into an output that has always room
 
@@ -53,11 +52,11 @@ printed_of w = if eqb w.answer.n 0 then bytes_in w else refusal_line w.answer
 
 -- `block_to_lines` and block to lines
 abbrev pub LinesAsCalled : Type 0
-LinesAsCalled = (block out : List ℕ) → Below 256 block → 55971 ≤ length out → lines_printed block ≡ printed_of (to_lines Unblocked block out)
+LinesAsCalled = (block out : List ℕ) → Below 256 block → 55971 ≤ length out → lines_printed block ≡ printed_of (to_lines block out)
 
 -- `lines_to_block` and writing a block
 abbrev pub BlockAsCalled : Type 0
-BlockAsCalled = (text out : List ℕ) → 16000 ≤ length out → block_printed text ≡ printed_of (write_block Unblocked text out)
+BlockAsCalled = (text out : List ℕ) → 16000 ≤ length out → block_printed text ≡ printed_of (write_block text out)
 
 -- `repack` and repacking
 abbrev pub BlocksAsCalled : Type 0

@@ -1,6 +1,5 @@
 // Turns lines, which are all of standard input, into their block, or says how they are refused: tests them first, and only then finds room for a block.
 use libc::{STDIN_FILENO, STDOUT_FILENO};
-use line_form::Form;
 use read_text::Judged;
 
 fn put_block(text: &[u8]) {
@@ -18,7 +17,7 @@ fn put_refusal(text: &[u8]) {
 fn main() {
     let mut input = [0u8; 65537];
     let n = io::read_full(STDIN_FILENO, &mut input);
-    match read_text::judge_lines(Form::Unblocked, &input[..n]) {
+    match read_text::judge_lines(&input[..n]) {
         Judged::Size(_) => put_block(&input[..n]),
         Judged::Flawed(_) => put_refusal(&input[..n]),
     }

@@ -19,11 +19,10 @@ use Rattle.block.specs.declared.Judged.{Judged}
 use Rattle.block.specs.declared.Judged.TheVariants.{Records, Refused}
 use Rattle.block.specs.Records.{records_of}
 use Rattle.block.proofs.Known.{accepted_by}
-use Rattle.line_form.specs.declared.Form.TheVariants.{Unblocked}
 use Rattle.write_lines.specs.Text.{text_of}
 use Rattle.write_lines.proofs.Sizes.{text_bound}
 use Rattle.read_records.specs.Reading.{read_text}
-use Rattle.read_records.proofs.Known.{row_apart, text_known, words_room}
+use Rattle.read_records.proofs.Known.{text_known, words_room}
 use Rattle.read_text.specs.Block.{judge_lines}
 use Rattle.report.specs.Text.{behind, line_of}
 use Rattle.report.specs.Decimal.{decimal_of}
@@ -68,14 +67,14 @@ module _ (text b : List ℕ) {out : List ℕ} {j : Judged} (h : Room out 0 (or_r
   refused_prints is says = prints_refused (λ _. text) h (sym e ∙ ap judged_of is) says
 
 pub lines_bound : (b : List ℕ) → Below 256 b → length (lines_printed b) ≤ 55971
-lines_bound b h = printed_most (λ _. text_of Unblocked (records_of b)) 55971 (omega arith) (judged b) (λ k e. text_bound Unblocked b h (record { count = k; is = e }))
+lines_bound b h = printed_most (λ _. text_of (records_of b)) 55971 (omega arith) (judged b) (λ k e. text_bound b h (record { count = k; is = e }))
 
 pub size_bound : (t : List ℕ) → length (size_printed t) ≤ 52
 unfolding line_of behind
-size_bound t = printed_most (λ size. line_of (decimal_of size ∷ [])) 52 (omega arith) (judge_lines Unblocked t) (λ size _. omega (arith, length-append (decimal_of size) (10 ∷ []), most_digits size))
+size_bound t = printed_most (λ size. line_of (decimal_of size ∷ [])) 52 (omega arith) (judge_lines t) (λ size _. omega (arith, length-append (decimal_of size) (10 ∷ []), most_digits size))
 
 pub block_bound : (t : List ℕ) → length (block_printed t) ≤ 16000
-block_bound t = printed_most block_from 16000 (omega arith) (read_text Unblocked t) (λ ws e. omega (arith, length-framed ws, words_room Unblocked t ws e))
+block_bound t = printed_most block_from 16000 (omega arith) (read_text t) (λ ws e. omega (arith, length-framed ws, words_room t ws e))
 
 pub blocks_bound : (slice : List ℕ) → Below 256 slice → length (blocks_printed slice) ≤ 64000
 blocks_bound slice h =
@@ -101,8 +100,8 @@ module _ {A : Type 0} (f : A → List ℕ) (short : ℕ) (out : List ℕ) {told 
       (prints room refl).printed (record { ends = put.ends ∙ ap (λ a. 0 + length (refusal_line a)) is; bytes = put.bytes ∙ ap (λ o. sets o 0 (refusal_line told)) (ap (λ o. o.out) e) ∙ ap (λ a. sets out 0 (refusal_line a)) is })
 
 -- no row is 0
-pub text_row : (t : List ℕ) (r : Answer) → read_text Unblocked t ≡ refused r → r.n ≡ 0 → ⊥
-text_row t r e z = omega (arith, (row_apart Unblocked r.n (rw e at (text_known Unblocked t)).listed).0)
+pub text_row : (t : List ℕ) (r : Answer) → read_text t ≡ refused r → r.n ≡ 0 → ⊥
+text_row t r e z = omega (arith, (rw e at (text_known t)).listed)
 
 pub slice_row : (slice : List ℕ) → Below 256 slice → (r : Answer) → blocks_in slice ≡ refused r → r.n ≡ 0 → ⊥
 slice_row slice h r e z = row_not_0 (rw e at (slice_known slice h)).listed z

@@ -5,7 +5,6 @@ use Rattle.words.specs.Words.{block_from}
 use Rattle.words.specs.Writing.{Put}
 use Rattle.block.specs.Judging.{judged}
 use Rattle.block.specs.Records.{records_of}
-use Rattle.line_form.specs.declared.Form.TheVariants.{Unblocked}
 use Rattle.write_lines.specs.Text.{text_of}
 use Rattle.read_records.specs.Reading.{read_text}
 use Rattle.read_text.specs.Block.{judge_lines}
@@ -28,15 +27,15 @@ pub record EndOrRefusal (told : Answer) (before after : List ℕ) (end : ℕ) : 
 
 -- "A block's text is its records' lines in order"
 abbrev pub lines_printed : List ℕ → List ℕ
-lines_printed block = or_refusal (λ _. text_of Unblocked (records_of block)) (judged block)
+lines_printed block = or_refusal (λ _. text_of (records_of block)) (judged block)
 
 -- document 02, request 2: "the block's size in bytes", as a line
 abbrev pub size_printed : List ℕ → List ℕ
-size_printed text = or_refusal (λ size. line_of (decimal_of size ∷ [])) (judge_lines Unblocked text)
+size_printed text = or_refusal (λ size. line_of (decimal_of size ∷ [])) (judge_lines text)
 
 -- the record words of the text, length word and checksum around them, as bytes
 abbrev pub block_printed : List ℕ → List ℕ
-block_printed text = or_refusal block_from (read_text Unblocked text)
+block_printed text = or_refusal block_from (read_text text)
 
 -- document 02, request 1: "it takes blocks one after the other ... and writes blocks again"
 abbrev pub blocks_printed : List ℕ → List ℕ

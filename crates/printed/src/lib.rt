@@ -8,7 +8,6 @@ ghost use Rattle.printed.specs.Printed.{EndOrRefusal};
 ghost use Rattle.printed.specs.Promises.{PrintsLines, PrintsSize, PrintsBlock, PrintsBlocks};
 
 use block::Judged;
-use line_form::Form;
 use units::{Answer, Bytes};
 
 // Bytes that suffice for the lines of any block.
@@ -28,7 +27,7 @@ pub fn print_lines(block: &[u8], out: &mut [u8; TEXT_BYTES]) -> Bytes
     ensures { PrintsLines block.now out.old result.0 out.new }
 {
     match block::judge(block) {
-        Judged::Records(_) => write_lines::write_records(Form::Unblocked, block, out),
+        Judged::Records(_) => write_lines::write_records(block, out),
         Judged::Refused(r) => report::write_refusal(block::refusal_numbers(r), out, Bytes(0)),
     }
 }
@@ -46,7 +45,7 @@ fn write_line(n: u32, out: &mut [u8]) -> Bytes
 pub fn print_size(text: &[u8], out: &mut [u8; SIZE_BYTES]) -> Bytes
     ensures { PrintsSize text.now out.old result.0 out.new }
 {
-    match read_text::judge_lines(Form::Unblocked, text) {
+    match read_text::judge_lines(text) {
         read_text::Judged::Size(size) => write_line(size.0 as u32, out),
         read_text::Judged::Flawed(f) => report::write_refusal(
             read_columns::numbers(f),
@@ -72,7 +71,7 @@ fn end_or_refusal(told: Answer, out: &mut [u8]) -> Bytes
 pub fn print_block(text: &[u8], out: &mut [u8; BLOCK_BYTES]) -> Bytes
     ensures { PrintsBlock text.now out.old result.0 out.new }
 {
-    let told = read_text::built_numbers(read_text::write_block(Form::Unblocked, text, out));
+    let told = read_text::built_numbers(read_text::write_block(text, out));
     end_or_refusal(told, out)
 }
 

@@ -21,7 +21,6 @@ pub enum Flaw {
     Range(Lines, Bytes),
     Much(Lines),
     Long,
-    NotBlocked,
 }
 
 // What is found of some columns.
@@ -166,7 +165,6 @@ pub fn numbers(f: Flaw) -> Answer
         Flaw::Range(line, column) => at_column(27, line, column),
         Flaw::Much(line) => at_column(28, line, Bytes(1)),
         Flaw::Long => at_column(30, Lines(0), Bytes(0)),
-        Flaw::NotBlocked => at_column(60, Lines(0), Bytes(0)),
     }
 }
 

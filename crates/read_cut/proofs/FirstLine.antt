@@ -14,8 +14,7 @@ use Rattle.units.specs.Choice.{if◌then◌else◌}
 use Rattle.units.proofs.Verdicts.{and_on}
 use Rattle.words.specs.Scans.{within, plain_in}
 use Rattle.words.proofs.Scans.{passes, scan_le, scan_take}
-use Rattle.read_cut.specs.Lines.{onto, ended_lines, lines_in, end_length, CutAt}
-use Rattle.line_form.specs.declared.Form.TheVariants.{Unblocked}
+use Rattle.read_cut.specs.Lines.{onto, lines_in, end_length, CutAt}
 use Rattle.read_cut.specs.declared.Cut.{Cut}
 
 -- the line end at place i
@@ -28,12 +27,12 @@ pub lf_at : (t : List ℕ) (i : ℕ) {r : Bool} → r ≡ eqb (get_or t i 0) 10 
 lf_at t i e is = rw (end_at t i, sym e, is)
 
 -- a line end: the line has no more bytes
-at_end_lem : (b : ℕ) (t : List ℕ) → 0 < end_length (b ∷ t) → ended_lines (b ∷ t) ≡ [] ∷ ended_lines (drop (end_length (b ∷ t)) (b ∷ t))
-unfolding ended_lines end_length
+at_end_lem : (b : ℕ) (t : List ℕ) → 0 < end_length (b ∷ t) → lines_in (b ∷ t) ≡ [] ∷ lines_in (drop (end_length (b ∷ t)) (b ∷ t))
+unfolding lines_in end_length
 at_end_lem b t h = by t (eqb b 10) refl (eqb b 13 && eqb (get_or t 0 0) 10) refl h
   where
     by : (t : List ℕ) (p : Bool) → eqb b 10 ≡ p → (q : Bool) → (eqb b 13 && eqb (get_or t 0 0) 10) ≡ q → 0 < (if p then 1 else if q then 2 else 0) →
-        ended_lines (b ∷ t) ≡ [] ∷ ended_lines (drop (if p then 1 else if q then 2 else 0) (b ∷ t))
+        lines_in (b ∷ t) ≡ [] ∷ lines_in (drop (if p then 1 else if q then 2 else 0) (b ∷ t))
     by t true e q f h = simp e
     by [] false e true f h = let z : ◌≡◌ {A = ℕ} 0 10 = eqb-true 0 10 (and_on (eqb b 13) (eqb 0 10) f).1 in absurd (omega arith)
     by (x ∷ t) false e true f h = let a = and_on (eqb b 13) (eqb x 10) f in simp (e, a.0, a.1)
@@ -41,8 +40,8 @@ at_end_lem b t h = by t (eqb b 10) refl (eqb b 13 && eqb (get_or t 0 0) 10) refl
 
 -- the first n bytes are free of ends, and the text or the line ends behind them
 first-line : (n : ℕ) (s : List ℕ) → 0 < length s → n ≤ length s → ((j : ℕ) → j < n → end_length (drop j s) ≡ 0) → (n < length s → 0 < end_length (drop n s)) →
-    ended_lines s ≡ take n s ∷ ended_lines (drop (end_length (drop n s)) (drop n s))
-unfolding ended_lines onto
+    lines_in s ≡ take n s ∷ lines_in (drop (end_length (drop n s)) (drop n s))
+unfolding lines_in onto
 first-line n [] some room free here = absurd (omega arith)
 first-line zero (b ∷ t) some room free here = at_end_lem b t (here (omega arith))
 first-line (suc n) (b ∷ []) some room free here = rw (free 0 (omega arith), take-nil n, drop-nil n, drop-nil)
@@ -73,8 +72,7 @@ module _ (t : List ℕ) (at : ℕ) where
 
   -- there the line ends, or the text
   pub cut_here : (c : Cut) → Sought t at c.end.0 → c.plain.0 ≡ plain_in (drop at t) → c.next.0 ≡ c.end.0 + end_length (drop c.end.0 t) →
-      (c.end.0 < length t → 0 < end_length (drop c.end.0 t)) → at < c.next.0 → c.next.0 ≤ length t → CutAt Unblocked t at c
-  unfolding lines_in
+      (c.end.0 < length t → 0 < end_length (drop c.end.0 t)) → at < c.next.0 → c.next.0 ≤ length t → CutAt t at c
   cut_here c s plain ends here onward inside =
       let end = c.end.0 in
       let e : at + (end - at) ≡ end = omega arith in

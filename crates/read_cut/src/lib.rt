@@ -1,10 +1,8 @@
-// The lines of a text, in either form. The reading of a line does not know which it is.
-ghost use Rattle.std.specs.Prelude.{◌≡◌, true, ◌+◌, ◌≤◌, ◌<◌, min, eqb, leb, length, get_or, drop};
+// The lines of a text. Only this crate knows how a line ends.
+ghost use Rattle.std.specs.Prelude.{◌≡◌, true, ◌+◌, ◌≤◌, ◌<◌, eqb, leb, length, get_or, drop};
 ghost use Rattle.words.specs.Scans.{within, plain_in};
-ghost use Rattle.line_form.specs.declared.Form.TheVariants.{Unblocked};
-ghost use Rattle.read_cut.specs.Lines.{end_length, latest_end, PlainOn, CutAt};
+ghost use Rattle.read_cut.specs.Lines.{end_length, PlainOn, CutAt};
 
-use line_form::Form;
 use units::Bytes;
 
 // Where a line ends, where the next one begins, and how many of its bytes are plain, from 32 to 126, before the first that is not.
@@ -108,12 +106,14 @@ fn end_length(text: &[u8], i: usize) -> usize
     0
 }
 
-// The line that begins at place `at` and has plain bytes up to place `from`: none of them ends it, so that its end is looked for behind them. Mostly an LF stands there.
-fn ended_line(text: &[u8], at: usize, from: usize) -> Cut
-    requires { (at < length text.now) × (from ≡ at + plain_in (drop at text.now)) }
-    ensures { CutAt Unblocked text.now at result }
+// The line that begins at place `at`: its plain bytes end no line, so that its end is looked for behind them. Mostly an LF stands there.
+pub fn next_line(text: &[u8], at: Bytes) -> Cut
+    requires { at.0 < length text.now }
+    ensures { CutAt text.now at.0 result }
 {
-    let plain = from - at;
+    let first = at.0;
+    let from = plain_end(text, first);
+    let plain = from - first;
     if is_lf(text, from) {
         let next = from + 1;
         return Cut {
@@ -139,49 +139,5 @@ fn ended_line(text: &[u8], at: usize, from: usize) -> Cut
         end: Bytes(i),
         next: Bytes(i),
         plain: Bytes(plain),
-    }
-}
-
-// The end of a line of 120 bytes, or of what is left.
-fn filled_end(text: &[u8], at: usize) -> usize
-    requires { at < length text.now }
-    ensures { result ≡ min (at + 120) (length text.now) }
-{
-    let all = text.len();
-    if all - at < 120 {
-        return all;
-    }
-    at + 120
-}
-
-// Where a line that begins at place `at` ends at the latest. Behind it no byte is looked at: of blocked lines none need stop the scan.
-fn latest_end(form: Form, text: &[u8], at: usize) -> usize
-    requires { at < length text.now }
-    ensures { result ≡ latest_end form (length text.now) at }
-{
-    match form {
-        Form::Unblocked => text.len(),
-        Form::Blocked => filled_end(text, at),
-    }
-}
-
-// The line that begins at place `at`.
-pub fn next_line(form: Form, text: &[u8], at: Bytes) -> Cut
-    requires { at.0 < length text.now }
-    ensures { CutAt form text.now at.0 result }
-{
-    let first = at.0;
-    let latest = latest_end(form, text, first);
-    let from = plain_end(&text[..latest], first);
-    match form {
-        Form::Unblocked => ended_line(text, first, from),
-        Form::Blocked => {
-            let plain = from - first;
-            Cut {
-                end: Bytes(latest),
-                next: Bytes(latest),
-                plain: Bytes(plain),
-            }
-        }
     }
 }

@@ -26,16 +26,16 @@ use Rattle.read_columns.specs.Columns.{right_to, plain_line, is_blank, blank_to,
 use Rattle.read_records.specs.Spelled.{PlainByte, Readable, Blanks, Spells, SpellsAll, SpellsZero}
 use Rattle.units.proofs.Told.{Known, then_known, known_as}
 use Rattle.read_records.proofs.Told.{told}
-use Rattle.read_records.specs.Cases.{LineRow}
+use Rattle.read_records.specs.Cases.{TextRow}
 use Rattle.units.proofs.Choosing.{by_test}
 
 -- ---- columns that must be right
 
 -- to the line's end, or the next one is told
-right_known : (n num : ℕ) (l : Line) (c : ℕ) → LineRow n → num < 2 ^ 24 → c < 65535 → Known LineRow (λ _. length l ≤ c) (right_to n num l c)
+right_known : (n num : ℕ) (l : Line) (c : ℕ) → TextRow n → num < 2 ^ 24 → c < 65535 → Known TextRow (λ _. length l ≤ c) (right_to n num l c)
 unfolding right_to
 right_known n num l c row hn h =
-    by_test (Known LineRow (λ _. length l ≤ c)) (ltb c (length l)) (refused (answer n num (c + 1) 0)) (passed tt) (λ _. told n num (c + 1) row hn (omega arith)) (ltb-false c (length l))
+    by_test (Known TextRow (λ _. length l ≤ c)) (ltb c (length l)) (refused (answer n num (c + 1) 0)) (passed tt) (λ _. told n num (c + 1) row hn (omega arith)) (ltb-false c (length l))
 
 -- row 20
 plain_byte : (b : ℕ) → within 32 126 b ≡ true → PlainByte b
@@ -46,10 +46,10 @@ readable l h =
     let short : length l ≤ 120 = omega (arith, scan_le (within 32 126) (take 120 l), length-take 120 l) in
     record { short = short; bytes = all_pass (within 32 126) PlainByte plain_byte l (rw (take_all 120 l short) at h) }
 
-pub plain_known : (num : ℕ) (l : Line) → num < 2 ^ 24 → Known LineRow (λ _. Readable l) (plain_line num l)
+pub plain_known : (num : ℕ) (l : Line) → num < 2 ^ 24 → Known TextRow (λ _. Readable l) (plain_line num l)
 unfolding plain_line
 plain_known num l hn =
-    known_as LineRow (λ _. length l ≤ plain_in (take 120 l)) (λ _. Readable l) (right_to 20 num l (plain_in (take 120 l)))
+    known_as TextRow (λ _. length l ≤ plain_in (take 120 l)) (λ _. Readable l) (right_to 20 num l (plain_in (take 120 l)))
     (right_known 20 num l (plain_in (take 120 l)) (omega arith) hn (omega (arith, scan_le (within 32 126) (take 120 l), length-take 120 l)))
     (λ _. readable l)
 
@@ -96,28 +96,28 @@ blank_field_lem l k e =
 
 -- line number num, of which no field past the 8,000th is asked for
 module _ (num : ℕ) (hn : num < 2 ^ 24) (l : Line) where
-  number_known : (k : ℕ) → k < most_words → Known LineRow (Spells l k) (number num l k)
+  number_known : (k : ℕ) → k < most_words → Known TextRow (Spells l k) (number num l k)
   unfolding number
   number_known k h = by (read_field (columns 6 l (6 * k))) refl
     where
-      by : (n : Number) → read_field (columns 6 l (6 * k)) ≡ n → Known LineRow (Spells l k) (word_in num k n)
+      by : (n : Number) → read_field (columns 6 l (6 * k)) ≡ n → Known TextRow (Spells l k) (word_in num k n)
       by (Word w) e = field_said e
       by Bad e = told 22 num (column_of k) (omega arith) hn (omega arith)
 
-  pub numbers_known : (k m : ℕ) → k + m ≤ most_words → Known LineRow (WordsRead l k m) (field_numbers num l k m)
+  pub numbers_known : (k m : ℕ) → k + m ≤ most_words → Known TextRow (WordsRead l k m) (field_numbers num l k m)
   unfolding field_numbers
   numbers_known k zero h = record { count = refl; spells = tt }
   numbers_known k (suc m) h =
-      then_known LineRow (Spells l k) (WordsRead l k (suc m)) (number num l k) _ (number_known k (omega arith))
-      (λ w hw. then_known LineRow (WordsRead l (suc k) m) (WordsRead l k (suc m)) (field_numbers num l (suc k) m) _ (numbers_known (suc k) m (omega arith))
+      then_known TextRow (Spells l k) (WordsRead l k (suc m)) (number num l k) _ (number_known k (omega arith))
+      (λ w hw. then_known TextRow (WordsRead l (suc k) m) (WordsRead l k (suc m)) (field_numbers num l (suc k) m) _ (numbers_known (suc k) m (omega arith))
       (λ ws r. record { count = ap suc r.count; spells = (hw, r.spells) }))
 
-  zero_known : (k : ℕ) → k < most_words → Known LineRow (λ _. SpellsZero l k) (zero_field num l k)
+  zero_known : (k : ℕ) → k < most_words → Known TextRow (λ _. SpellsZero l k) (zero_field num l k)
   unfolding zero_field
   zero_known k h =
-      by_test (Known LineRow Z) (blank_field l k) (passed tt) _ (λ t. inl (blank_field_lem l k t))
-      (λ _. then_known LineRow (Spells l k) Z (number num l k) _ (number_known k h)
-      (λ w s. by_test (Known LineRow Z) (eqb w 0) (passed tt) (refused (answer 26 num (column_of k) 0)) (λ t. inr (rw (eqb-true w 0 t) at s)) (λ _. told 26 num (column_of k) (omega arith) hn (omega arith))))
+      by_test (Known TextRow Z) (blank_field l k) (passed tt) _ (λ t. inl (blank_field_lem l k t))
+      (λ _. then_known TextRow (Spells l k) Z (number num l k) _ (number_known k h)
+      (λ w s. by_test (Known TextRow Z) (eqb w 0) (passed tt) (refused (answer 26 num (column_of k) 0)) (λ t. inr (rw (eqb-true w 0 t) at s)) (λ _. told 26 num (column_of k) (omega arith) hn (omega arith))))
     where
       Z : Unit {0} → Type 0
       Z _ = SpellsZero l k
@@ -126,21 +126,21 @@ module _ (num : ℕ) (hn : num < 2 ^ 24) (l : Line) where
   abbrev pub ZerosRead : ℕ → ℕ → Type 0
   ZerosRead k m = (j : ℕ) → k ≤ j → j < k + m → SpellsZero l j
 
-  pub zeros_known : (k m : ℕ) → k + m ≤ most_words → Known LineRow (λ _. ZerosRead k m) (zero_fields num l k m)
+  pub zeros_known : (k m : ℕ) → k + m ≤ most_words → Known TextRow (λ _. ZerosRead k m) (zero_fields num l k m)
   unfolding zero_fields
   zeros_known k zero h = λ j low high. absurd (omega arith)
   zeros_known k (suc m) h =
-      then_known LineRow (λ _. SpellsZero l k) (λ _. ZerosRead k (suc m)) (zero_field num l k) _ (zero_known k (omega arith))
-      (λ _ z. known_as LineRow (λ _. ZerosRead (suc k) m) (λ _. ZerosRead k (suc m)) (zero_fields num l (suc k) m) (zeros_known (suc k) m (omega arith))
+      then_known TextRow (λ _. SpellsZero l k) (λ _. ZerosRead k (suc m)) (zero_field num l k) _ (zero_known k (omega arith))
+      (λ _ z. known_as TextRow (λ _. ZerosRead (suc k) m) (λ _. ZerosRead k (suc m)) (zero_fields num l (suc k) m) (zeros_known (suc k) m (omega arith))
       (λ _ zs j low high. by j low high z zs (eqb j k) refl))
     where
       by : (j : ℕ) → k ≤ j → j < k + suc m → SpellsZero l k → ZerosRead (suc k) m → (t : Bool) → eqb j k ≡ t → SpellsZero l j
       by j low high z zs true t = rw (eqb-true j k t) z
       by j low high z zs false t = zs j (omega (arith, eqb-false j k t)) (omega arith)
 
-  pub blank_known : (c : ℕ) → Readable l → c ≤ columns_of_fields most_words → Known LineRow (λ _. Blanks (drop c l)) (blank_after num l c)
+  pub blank_known : (c : ℕ) → Readable l → c ≤ columns_of_fields most_words → Known TextRow (λ _. Blanks (drop c l)) (blank_after num l c)
   unfolding blank_after
   blank_known c e h =
-      known_as LineRow (λ _. length l ≤ blank_to c l) (λ _. Blanks (drop c l)) (right_to 26 num l (blank_to c l))
+      known_as TextRow (λ _. length l ≤ blank_to c l) (λ _. Blanks (drop c l)) (right_to 26 num l (blank_to c l))
       (right_known 26 num l (blank_to c l) (omega arith) hn (omega (arith, scan_le is_blank (drop c l), length-drop c l, e.short)))
       (λ _ r. all_blank (drop c l) (omega (arith, length-drop c l)))

@@ -3,7 +3,7 @@ use mathlib.Core.Path.{◌≡◌, refl, sym, ap, ◌∙◌}
 use mathlib.Core.List.{List, [], ◌∷◌, ◌++◌}
 use Prim.Native.Nat.{ℕ, suc, ◌+◌, ◌-◌, ◌^◌, ◌≤◌, ◌<◌}
 use native.Mathlib.Omega.{arith}
-use lib.ListN.{length, take, drop, length-append, drop_of_length-le}
+use lib.ListN.{length, take, drop, length-append}
 use Rattle.units.specs.declared.Words.{Words}
 use Rattle.units.specs.Answers.{Verdict, passed, refused, onward}
 use Rattle.units.proofs.Verdicts.{never_passed}
@@ -16,13 +16,11 @@ use Rattle.read_records.specs.Content.{stored}
 use Rattle.read_first_line.specs.declared.Rest.{Rest}
 use Rattle.read_first_line.specs.declared.Move.{Move}
 use Rattle.read_first_line.specs.declared.Move.TheVariants.{Next, Refused}
-use Rattle.line_form.specs.declared.Form.{Form}
-use Rattle.line_form.specs.declared.Form.TheVariants.{Unblocked, Blocked}
 use Rattle.read_cut.specs.declared.Cut.{Cut}
-use Rattle.read_cut.specs.Lines.{ended_lines, filled_lines, lines_in, CutAt}
+use Rattle.read_cut.specs.Lines.{lines_in, CutAt}
 use Rattle.read_first_line.proofs.Heads.{put-append}
 use Rattle.units.proofs.Told.{Known}
-use Rattle.read_records.specs.Cases.{LineRow}
+use Rattle.read_records.specs.Cases.{TextRow}
 use Rattle.read_records.proofs.Opened.{Taken, line_known, RoomToCome}
 use Rattle.read_records.proofs.Known.{room_on}
 
@@ -64,48 +62,39 @@ room_next : (num held : ℕ) (rest : List Shape) (l b b' : List ℕ) (p : Rest) 
     → stand_of b' (Next p n) ≡ after held b (read_line num held rest l) → RoomToCome n.0 (to_come p)
 room_next num held rest l b b' p n hn h e = by (read_line num held rest l) (line_known num hn held l rest h) e
   where
-    by : (v : Verdict Read) → Known LineRow (Taken held rest l) v → stand_of b' (Next p n) ≡ after held b v → RoomToCome n.0 (to_come p)
+    by : (v : Verdict Read) → Known TextRow (Taken held rest l) v → stand_of b' (Next p n) ≡ after held b v → RoomToCome n.0 (to_come p)
     by (passed s) t e =
         let same : ◌≡◌ {A = Stand} (record { rest = to_come p; held = n.0; block = b' }) (record { rest = s.rest; held = held + length s.words; block = put held b s.words }) = cc in
         rw (ap (λ (x : Stand). x.held) same, ap (λ (x : Stand). x.rest) same) (room_on held rest l s h t.given)
     by (refused r) t e = absurd (never_passed (sym e))
 
--- behind the text there are no lines
-pub none-behind : (f : Form) (t : List ℕ) (at : ℕ) → length t ≤ at → lines_in f (drop at t) ≡ []
-unfolding lines_in ended_lines filled_lines
-none-behind f t at h = ap (lines_in f) (drop_of_length-le t {i = at} h) ∙ none f
-  where
-    none : (f : Form) → lines_in f [] ≡ []
-    none Unblocked = refl
-    none Blocked = refl
-
 -- where the loop stands at place `at`: the lines from there on, and bounds on what is counted
-pub record Reading (f : Form) (text b₀ b : List ℕ) (row : List ℕ) (rest : List Shape) (held num at : ℕ) : Type 0 where
-  pub same : stored held b (read_lines num held rest (lines_in f (drop at text))) ≡ stored 0 b₀ (read_lines 1 0 [] (lines_in f text))
+pub record Reading (text b₀ b : List ℕ) (row : List ℕ) (rest : List Shape) (held num at : ℕ) : Type 0 where
+  pub same : stored held b (read_lines num held rest (lines_in (drop at text))) ≡ stored 0 b₀ (read_lines 1 0 [] (lines_in text))
   pub length_kept : length b ≡ length b₀
   pub row_long : length row ≡ 20
   pub lines_most : num ≤ at + 1
   pub room : RoomToCome held rest
 
 -- a turn of the loop, on the line that is cut at its place
-module _ {f : Form} {text b₀ b row : List ℕ} {rest : List Shape} {held num at : ℕ} (g : Reading f text b₀ b row rest held num at) {c : Cut} (cut : CutAt f text at c) where
+module _ {text b₀ b row : List ℕ} {rest : List Shape} {held num at : ℕ} (g : Reading text b₀ b row rest held num at) {c : Cut} (cut : CutAt text at c) where
   abbrev line : List ℕ
   line = take (c.end.0 - at) (drop at text)
 
   -- with its lines cut the text is read as before
-  same_cut : stored held b (read_lines num held rest (line ∷ lines_in f (drop c.next.0 text))) ≡ stored 0 b₀ (read_lines 1 0 [] (lines_in f text))
+  same_cut : stored held b (read_lines num held rest (line ∷ lines_in (drop c.next.0 text))) ≡ stored 0 b₀ (read_lines 1 0 [] (lines_in text))
   same_cut = ap (λ x. stored held b (read_lines num held rest x)) (sym cut.cut) ∙ g.same
 
   module _ (b' : List ℕ) (s : Move) (read : stand_of b' s ≡ after held b (read_line num held rest line)) where
-    pub reading-refused : {why : Flaw} → s ≡ Refused why → refused (flaw_of why) ≡ stored 0 b₀ (read_lines 1 0 [] (lines_in f text))
-    reading-refused {why} is = sym (end num held rest line (lines_in f (drop c.next.0 text)) b b' why (ap (stand_of b') (sym is) ∙ read)) ∙ same_cut
+    pub reading-refused : {f : Flaw} → s ≡ Refused f → refused (flaw_of f) ≡ stored 0 b₀ (read_lines 1 0 [] (lines_in text))
+    reading-refused {f} is = sym (end num held rest line (lines_in (drop c.next.0 text)) b b' f (ap (stand_of b') (sym is) ∙ read)) ∙ same_cut
 
-    pub reading-on : {p : Rest} {n : Words} {row' : List ℕ} → s ≡ Next p n → length text ≤ 960000 → length b' ≡ length b → length row' ≡ length row
-        → Reading f text b₀ b' row' (to_come p) n.0 (num + 1) c.next.0
+    pub reading-on : {p : Rest} {n : Words} {row' : List ℕ} → s ≡ Next p n → length text ≤ 65536 → length b' ≡ length b → length row' ≡ length row
+        → Reading text b₀ b' row' (to_come p) n.0 (num + 1) c.next.0
     reading-on {p} {n} is small Kept-Block kept_row =
         let e : stand_of b' (Next p n) ≡ after held b (read_line num held rest line) = ap (stand_of b') (sym is) ∙ read in
         record {
-          same = sym (turn num held rest line (lines_in f (drop c.next.0 text)) b b' p n e) ∙ same_cut;
+          same = sym (turn num held rest line (lines_in (drop c.next.0 text)) b b' p n e) ∙ same_cut;
           length_kept = Kept-Block ∙ g.length_kept;
           row_long = kept_row ∙ g.row_long;
           lines_most = omega (arith, g.lines_most, cut.onward);

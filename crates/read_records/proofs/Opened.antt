@@ -25,7 +25,7 @@ use Rattle.read_line.specs.Lines.{later_fields, in_state, read_line}
 use Rattle.read_records.specs.Spelled.{Readable, Blanks, SpellsAll, SpellsZero, LineSpells}
 use Rattle.units.proofs.Told.{Known, then_known, known_as}
 use Rattle.read_records.proofs.Told.{told}
-use Rattle.read_records.specs.Cases.{LineRow}
+use Rattle.read_records.specs.Cases.{TextRow}
 use Rattle.units.proofs.Choosing.{by_test}
 use Rattle.read_records.proofs.Columns.{plain_known, all_blank, WordsRead, numbers_known, zeros_known, blank_known}
 
@@ -165,11 +165,11 @@ unfolding plan
 plan_turn c h = rw (part_turn c.lprol h) refl
 
 module _ (num : ℕ) (hn : num < 2 ^ 24) where
-  counts_known : (r : List ℕ) → Known LineRow (λ q. (q ≡ r) × CountsOk (counts_of r)) (counts_in num r)
+  counts_known : (r : List ℕ) → Known TextRow (λ q. (q ≡ r) × CountsOk (counts_of r)) (counts_in num r)
   unfolding counts_in
   counts_known r =
       let right = in_range (counts_of r) in
-      by_test (Known LineRow (λ q. (q ≡ r) × CountsOk (counts_of r))) (ltb right 4) (refused (answer 27 num (column_of (12 + right)) 0)) (passed r)
+      by_test (Known TextRow (λ q. (q ≡ r) × CountsOk (counts_of r))) (ltb right 4) (refused (answer 27 num (column_of (12 + right)) 0)) (passed r)
       (λ t. told 27 num (column_of (12 + right)) (omega arith) hn (omega (arith, ltb-true right 4 t)))
       (λ t. (refl, range_ok (counts_of r) (ltb-false right 4 t)))
 
@@ -177,46 +177,46 @@ module _ (num : ℕ) (hn : num < 2 ^ 24) where
 
   module _ (l : Line) where
     module _ (head : List ℕ) (read : WordsRead l 0 12 head) where
-      catalogue-known : word head 2 ≡ 2101 → Known LineRow (HeadRead l) (catalogue_fields num l head)
+      catalogue-known : word head 2 ≡ 2101 → Known TextRow (HeadRead l) (catalogue_fields num l head)
       unfolding catalogue_fields
       catalogue-known e =
-          then_known LineRow (λ _. (k : ℕ) → 12 ≤ k → k < 20 → SpellsZero l k) (HeadRead l) (zero_fields num l 12 8) _ (zeros_known num hn l 12 8 (omega arith))
+          then_known TextRow (λ _. (k : ℕ) → 12 ≤ k → k < 20 → SpellsZero l k) (HeadRead l) (zero_fields num l 12 8) _ (zeros_known num hn l 12 8 (omega arith))
           (λ _ z. catalogue_read (record { read = read; says = e; zeros = z }))
 
-      header-known : word head 2 ≡ 3101 → Known LineRow (HeadRead l) (header_fields num l head)
+      header-known : word head 2 ≡ 3101 → Known TextRow (HeadRead l) (header_fields num l head)
       unfolding header_fields
       header-known e =
-          then_known LineRow (WordsRead l 12 3) (HeadRead l) (field_numbers num l 12 3) _ (numbers_known num hn l 12 3 (omega arith))
-          (λ more m. then_known LineRow (λ _. (k : ℕ) → 15 ≤ k → k < 20 → SpellsZero l k) (HeadRead l) (zero_fields num l 15 5) _ (zeros_known num hn l 15 5 (omega arith))
+          then_known TextRow (WordsRead l 12 3) (HeadRead l) (field_numbers num l 12 3) _ (numbers_known num hn l 12 3 (omega arith))
+          (λ more m. then_known TextRow (λ _. (k : ℕ) → 15 ≤ k → k < 20 → SpellsZero l k) (HeadRead l) (zero_fields num l 15 5) _ (zeros_known num hn l 15 5 (omega arith))
           (λ _ z. header_read (record { read = words-joined l 12 3 head more read m; says = stays head more 12 read.count 1 (omega arith) ∙ e; zeros = z })))
 
-      count-fields-known : word head 2 ≡ 1101 → Known LineRow (CountsHead l) (count_fields num l head)
+      count-fields-known : word head 2 ≡ 1101 → Known TextRow (CountsHead l) (count_fields num l head)
       unfolding count_fields
       count-fields-known e =
-          then_known LineRow (WordsRead l 12 4) (CountsHead l) (field_numbers num l 12 4) _ (numbers_known num hn l 12 4 (omega arith))
-          (λ more m. known_as LineRow (λ q. (q ≡ head ++ more) × CountsOk (counts_of (head ++ more))) (CountsHead l) (counts_in num (head ++ more)) (counts_known (head ++ more))
+          then_known TextRow (WordsRead l 12 4) (CountsHead l) (field_numbers num l 12 4) _ (numbers_known num hn l 12 4 (omega arith))
+          (λ more m. known_as TextRow (λ q. (q ≡ head ++ more) × CountsOk (counts_of (head ++ more))) (CountsHead l) (counts_in num (head ++ more)) (counts_known (head ++ more))
           (λ q c. rw c.0 (record { read = words-joined l 12 4 head more read m; says = stays head more 12 read.count 1 (omega arith) ∙ e; counts = c.1 })))
 
-    prologue-known : Readable l → (r : List ℕ) → CountsHead l r → Known LineRow (HeadRead l) (prologue_fields num l r)
+    prologue-known : Readable l → (r : List ℕ) → CountsHead l r → Known TextRow (HeadRead l) (prologue_fields num l r)
     unfolding prologue_fields
     prologue-known e r h =
         let used = min (word r 13) 20 in
-        then_known LineRow (WordsRead l 16 (used - 16)) (HeadRead l) (field_numbers num l 16 (used - 16)) _ (numbers_known num hn l 16 (used - 16) (omega arith))
-        (λ more m. then_known LineRow (λ _. Blanks (drop (6 * used) l)) (HeadRead l) (blank_after num l (6 * used)) _ (blank_known num hn l (6 * used) e (omega arith))
+        then_known TextRow (WordsRead l 16 (used - 16)) (HeadRead l) (field_numbers num l 16 (used - 16)) _ (numbers_known num hn l 16 (used - 16) (omega arith))
+        (λ more m. then_known TextRow (λ _. Blanks (drop (6 * used) l)) (HeadRead l) (blank_after num l (6 * used)) _ (blank_known num hn l (6 * used) e (omega arith))
         (λ _ b. data_read (head_on l r more h m b)))
 
-    kind-known : Readable l → (head : List ℕ) → WordsRead l 0 12 head → Known LineRow (HeadRead l) (kind_fields num l head)
+    kind-known : Readable l → (head : List ℕ) → WordsRead l 0 12 head → Known TextRow (HeadRead l) (kind_fields num l head)
     unfolding kind_fields data_fields
     kind-known e head read =
-        by_test (Known LineRow (HeadRead l)) (eqb (word head 2) 2101) (catalogue_fields num l head) _ (λ t. catalogue-known head read (eqb-true (word head 2) 2101 t))
-        (λ _. by_test (Known LineRow (HeadRead l)) (eqb (word head 2) 3101) (header_fields num l head) _ (λ t. header-known head read (eqb-true (word head 2) 3101 t))
-        (λ _. by_test (Known LineRow (HeadRead l)) (eqb (word head 2) 1101) (data_fields num l head) (refused (answer 23 num 7 0))
-        (λ t. then_known LineRow (CountsHead l) (HeadRead l) (count_fields num l head) _ (count-fields-known head read (eqb-true (word head 2) 1101 t)) (λ r h. prologue-known e r h))
+        by_test (Known TextRow (HeadRead l)) (eqb (word head 2) 2101) (catalogue_fields num l head) _ (λ t. catalogue-known head read (eqb-true (word head 2) 2101 t))
+        (λ _. by_test (Known TextRow (HeadRead l)) (eqb (word head 2) 3101) (header_fields num l head) _ (λ t. header-known head read (eqb-true (word head 2) 3101 t))
+        (λ _. by_test (Known TextRow (HeadRead l)) (eqb (word head 2) 1101) (data_fields num l head) (refused (answer 23 num 7 0))
+        (λ t. then_known TextRow (CountsHead l) (HeadRead l) (count_fields num l head) _ (count-fields-known head read (eqb-true (word head 2) 1101 t)) (λ r h. prologue-known e r h))
         (λ _. told 23 num 7 (omega arith) hn (omega arith))))
 
-    first-fields-known : Readable l → Known LineRow (HeadRead l) (first_fields num l)
+    first-fields-known : Readable l → Known TextRow (HeadRead l) (first_fields num l)
     unfolding first_fields
-    first-fields-known e = then_known LineRow (WordsRead l 0 12) (HeadRead l) (field_numbers num l 0 12) _ (numbers_known num hn l 0 12 (omega arith)) (λ head read. kind-known e head read)
+    first-fields-known e = then_known TextRow (WordsRead l 0 12) (HeadRead l) (field_numbers num l 0 12) _ (numbers_known num hn l 0 12 (omega arith)) (λ head read. kind-known e head read)
 
   -- ---- its counts
 
@@ -225,21 +225,21 @@ module _ (num : ℕ) (hn : num < 2 ^ 24) where
     abbrev CardsFit : ℕ → Unit {0} → Type 0
     CardsFit lines _ = (1 ≤ lines) × (held + 40 * lines ≤ most_record_words)
 
-    cards-room-known : (lines : ℕ) → Known LineRow (CardsFit lines) (cards_room num held lines)
+    cards-room-known : (lines : ℕ) → Known TextRow (CardsFit lines) (cards_room num held lines)
     unfolding cards_room
     cards-room-known lines =
-        by_test (Known LineRow (CardsFit lines)) (ltb lines 1 || ltb 199 lines) (refused (answer 24 num 1 0)) _ (λ _. told 24 num 1 (omega arith) hn (omega arith))
-        (λ t. by_test (Known LineRow (CardsFit lines)) (ltb most_record_words (held + 40 * lines)) (refused (answer 28 num 1 0)) _ (λ _. told 28 num 1 (omega arith) hn (omega arith))
+        by_test (Known TextRow (CardsFit lines)) (ltb lines 1 || ltb 199 lines) (refused (answer 24 num 1 0)) _ (λ _. told 24 num 1 (omega arith) hn (omega arith))
+        (λ t. by_test (Known TextRow (CardsFit lines)) (ltb most_record_words (held + 40 * lines)) (refused (answer 28 num 1 0)) _ (λ _. told 28 num 1 (omega arith) hn (omega arith))
         (λ u. (ltb-false lines 1 (or_off (ltb lines 1) _ t).0, ltb-false most_record_words (held + 40 * lines) u)))
 
     abbrev DataFits : ℕ → Counts → Unit {0} → Type 0
     DataFits lines c _ = (lines ≡ lines_needed c) × (held + words_needed c ≤ most_record_words)
 
-    data-room-known : (lines : ℕ) (c : Counts) → Known LineRow (DataFits lines c) (data_room num held lines c)
+    data-room-known : (lines : ℕ) (c : Counts) → Known TextRow (DataFits lines c) (data_room num held lines c)
     unfolding data_room
     data-room-known lines c =
-        by_test (Known LineRow (DataFits lines c)) (ltb most_record_words (held + words_needed c)) (refused (answer 28 num 1 0)) _ (λ _. told 28 num 1 (omega arith) hn (omega arith))
-        (λ t. by_test (Known LineRow (DataFits lines c)) (not (eqb lines (lines_needed c))) (refused (answer 24 num 1 0)) _ (λ _. told 24 num 1 (omega arith) hn (omega arith))
+        by_test (Known TextRow (DataFits lines c)) (ltb most_record_words (held + words_needed c)) (refused (answer 28 num 1 0)) _ (λ _. told 28 num 1 (omega arith) hn (omega arith))
+        (λ t. by_test (Known TextRow (DataFits lines c)) (not (eqb lines (lines_needed c))) (refused (answer 24 num 1 0)) _ (λ _. told 24 num 1 (omega arith) hn (omega arith))
         (λ u. (eqb-true lines (lines_needed c) (not-false _ u), ltb-false most_record_words (held + words_needed c) t)))
 
     -- the line of a Catalogue or a Header with n fields that may be free
@@ -258,8 +258,8 @@ module _ (num : ℕ) (hn : num < 2 ^ 24) where
             room = room;
           }
 
-      cards_known : Known LineRow (Opens held l) (head_line num held (cards kind head))
-      cards_known = then_known LineRow (CardsFit (word head 1)) (Opens held l) (cards_room num held (word head 1)) _ (cards-room-known (word head 1)) (λ _ r. cards-open r.0 r.1)
+      cards_known : Known TextRow (Opens held l) (head_line num held (cards kind head))
+      cards_known = then_known TextRow (CardsFit (word head 1)) (Opens held l) (cards_room num held (word head 1)) _ (cards-room-known (word head 1)) (λ _ r. cards-open r.0 r.1)
 
     -- the line of a Data record
     module _ (head : List ℕ) (is : DataHead l head) where
@@ -278,41 +278,41 @@ module _ (num : ℕ) (hn : num < 2 ^ 24) where
             room = room;
           }
 
-      data-line-known : Known LineRow (Opens held l) (head_line num held (counts head))
+      data-line-known : Known TextRow (Opens held l) (head_line num held (counts head))
       data-line-known =
-          then_known LineRow (DataFits (word head 1) (counts_of head)) (Opens held l) (data_room num held (word head 1) (counts_of head)) _ (data-room-known (word head 1) (counts_of head))
+          then_known TextRow (DataFits (word head 1) (counts_of head)) (Opens held l) (data_room num held (word head 1) (counts_of head)) _ (data-room-known (word head 1) (counts_of head))
           (λ _ r. data-open r.0 r.1)
 
-    head-known : (h : Head) → HeadRead l h → Known LineRow (Opens held l) (head_line num held h)
+    head-known : (h : Head) → HeadRead l h → Known TextRow (Opens held l) (head_line num held h)
     head-known (cards kind ws) (catalogue_read c) = cards_known 12 2001 2101 (omega arith) (omega arith) ws c (λ _ f. catalogue_first f)
     head-known (cards kind ws) (header_read c) = cards_known 15 3002 3101 (omega arith) (omega arith) ws c (λ _ f. header_first f)
     head-known (counts ws) (data_read d) = data-line-known ws d
 
     -- ---- any line
 
-    first-known : Readable l → Known LineRow (Opens held l) (first_line num held l)
+    first-known : Readable l → Known TextRow (Opens held l) (first_line num held l)
     unfolding first_line
-    first-known e = then_known LineRow (HeadRead l) (Opens held l) (first_fields num l) _ (first-fields-known l e) (λ h r. head-known h r)
+    first-known e = then_known TextRow (HeadRead l) (Opens held l) (first_fields num l) _ (first-fields-known l e) (λ h r. head-known h r)
 
-    row-known : Readable l → (n : ℕ) → n ≤ most_record_words → Known LineRow (LineSpells (fields n) l) (later_fields num l n)
+    row-known : Readable l → (n : ℕ) → n ≤ most_record_words → Known TextRow (LineSpells (fields n) l) (later_fields num l n)
     unfolding later_fields
     row-known e n h =
-        then_known LineRow (WordsRead l 0 n) (LineSpells (fields n) l) (field_numbers num l 0 n) _ (numbers_known num hn l 0 n (omega arith))
-        (λ ws r. then_known LineRow (λ _. Blanks (drop (6 * n) l)) (LineSpells (fields n) l) (blank_after num l (6 * n)) _ (blank_known num hn l (6 * n) e (omega arith))
+        then_known TextRow (WordsRead l 0 n) (LineSpells (fields n) l) (field_numbers num l 0 n) _ (numbers_known num hn l 0 n (omega arith))
+        (λ ws r. then_known TextRow (λ _. Blanks (drop (6 * n) l)) (LineSpells (fields n) l) (blank_after num l (6 * n)) _ (blank_known num hn l (6 * n) e (omega arith))
         (λ _ b. (r.count, r.spells, b)))
 
-    state-known : (rest : List Shape) → RoomToCome held rest → Readable l → Known LineRow (Given held rest l) (in_state num held rest l)
+    state-known : (rest : List Shape) → RoomToCome held rest → Readable l → Known TextRow (Given held rest l) (in_state num held rest l)
     unfolding in_state words_to_come
     state-known (card ∷ rest) room e =
-        then_known LineRow (λ _. Blanks (drop 80 l)) (Given held (card ∷ rest) l) (blank_after num l 80) _ (blank_known num hn l 80 e (omega arith)) (λ _ b. (refl, (refl, b)))
+        then_known TextRow (λ _. Blanks (drop 80 l)) (Given held (card ∷ rest) l) (blank_after num l 80) _ (blank_known num hn l 80 e (omega arith)) (λ _ b. (refl, (refl, b)))
     state-known (fields n ∷ rest) room e =
-        then_known LineRow (LineSpells (fields n) l) (Given held (fields n ∷ rest) l) (later_fields num l n) _ (row-known e n (omega arith)) (λ ws r. (refl, r))
+        then_known TextRow (LineSpells (fields n) l) (Given held (fields n ∷ rest) l) (later_fields num l n) _ (row-known e n (omega arith)) (λ ws r. (refl, r))
     state-known [] room e =
-        by_test (Known LineRow (BetweenRecords held l)) (blank_line l) (gives [] []) (first_line num held l) (λ t. skipped (all_blank l (omega (arith, leb-true (length l) _ t))) refl refl)
-        (λ _. known_as LineRow (Opens held l) (BetweenRecords held l) (first_line num held l) (first-known e) (λ s o. opens o))
+        by_test (Known TextRow (BetweenRecords held l)) (blank_line l) (gives [] []) (first_line num held l) (λ t. skipped (all_blank l (omega (arith, leb-true (length l) _ t))) refl refl)
+        (λ _. known_as TextRow (Opens held l) (BetweenRecords held l) (first_line num held l) (first-known e) (λ s o. opens o))
 
-    pub line_known : (rest : List Shape) → RoomToCome held rest → Known LineRow (Taken held rest l) (read_line num held rest l)
+    pub line_known : (rest : List Shape) → RoomToCome held rest → Known TextRow (Taken held rest l) (read_line num held rest l)
     unfolding read_line
     line_known rest room =
-        then_known LineRow (λ _. Readable l) (Taken held rest l) (plain_line num l) _ (plain_known num l hn)
-        (λ _ e. known_as LineRow (Given held rest l) (Taken held rest l) (in_state num held rest l) (state-known rest room e) (λ s g. record { readable = e; given = g }))
+        then_known TextRow (λ _. Readable l) (Taken held rest l) (plain_line num l) _ (plain_known num l hn)
+        (λ _ e. known_as TextRow (Given held rest l) (Taken held rest l) (in_state num held rest l) (state-known rest room e) (λ s g. record { readable = e; given = g }))

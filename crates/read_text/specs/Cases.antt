@@ -1,18 +1,16 @@
 -- The paper's numbers for each case of what becomes of a text.
-use Rattle.std.specs.Prelude.{◌≡◌, ◌⊎◌, ℕ}
+use Rattle.std.specs.Prelude.{ℕ, ◌≤◌}
 use Rattle.units.specs.declared.Answer.{Answer}
 use Rattle.units.specs.Answers.{answer, Verdict, passed, refused}
-use Rattle.line_form.specs.declared.Form.{Form}
 use Rattle.read_columns.specs.Cases.{flaw_of}
-use Rattle.read_records.specs.Cases.{TextRow}
 use Rattle.read_text.specs.declared.Judged.{Judged}
 use Rattle.read_text.specs.declared.Judged.TheVariants.{Size, Flawed}
 use Rattle.read_text.specs.declared.Built.{Built}
 use Rattle.read_text.specs.declared.Built.TheVariants.{Block, Refused, Short}
 
--- "writing gives all of them in 01's order": the text's rows, then 29
-abbrev pub WriteRow : Form → ℕ → Type 0
-WriteRow f n = TextRow f n ⊎ (n ≡ 29)
+-- "writing gives all of them in 01's order": rows 20 to 30
+abbrev pub WriteRow : ℕ → Type 0
+WriteRow n = (20 ≤ n) × (n ≤ 30)
 
 -- "the block's size in bytes", or the text's refusal
 abbrev pub judged_of : Judged → Verdict ℕ

@@ -2,18 +2,17 @@
 use Rattle.std.specs.Prelude.{◌≡◌, List, ℕ}
 use Rattle.units.specs.Answers.{answered, Packs}
 use Rattle.words.specs.Outcomes.{leaves}
-use Rattle.line_form.specs.declared.Form.{Form}
 use Rattle.read_text.specs.declared.Judged.{Judged}
 use Rattle.read_text.specs.declared.Built.{Built}
 use Rattle.read_text.specs.Cases.{judged_of, built_of}
 use Rattle.read_text.specs.Block.{judge_lines, write_block}
 
--- `judge_lines`: how many bytes the block of these lines, of this form, has, or their refusal; the answer's numbers can be packed
-pub record JudgesLines (f : Form) (text : List ℕ) (r : Judged) : Type 0 where
-  pub outcome : judged_of r ≡ judge_lines f text
+-- `judge_lines`: how many bytes the block of these lines has, or their refusal; the answer's numbers can be packed
+pub record JudgesLines (text : List ℕ) (r : Judged) : Type 0 where
+  pub outcome : judged_of r ≡ judge_lines text
   pub packs : Packs (answered (judged_of r))
 
 -- `write_block`: the block of these lines into this one, and that afterwards; the answer's numbers can be packed
-pub record WritesBlock (f : Form) (text block : List ℕ) (r : Built) (after : List ℕ) : Type 0 where
-  pub outcome : leaves (built_of r) after ≡ write_block f text block
+pub record WritesBlock (text block : List ℕ) (r : Built) (after : List ℕ) : Type 0 where
+  pub outcome : leaves (built_of r) after ≡ write_block text block
   pub packs : Packs (built_of r)

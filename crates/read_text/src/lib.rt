@@ -1,4 +1,4 @@
-// Lines to block, for lines of either form, in two calls: one judges the lines and tells the size of their block, one judges them again and writes it.
+// Lines to block, in two calls: one judges the lines and tells the size of their block, one judges them again and writes it.
 ghost use Rattle.std.specs.Prelude.{◌≡◌, ◌+◌, ◌≤◌, ◌<◌, ◌^◌};
 ghost use Rattle.units.specs.Answers.{passed, answered, fitted};
 ghost use Rattle.units.specs.Units.{bytes_of_words};
@@ -8,7 +8,6 @@ ghost use Rattle.read_text.specs.Block.{judge_lines, write_block};
 ghost use Rattle.read_text.specs.Cases.{judged_of, built_of};
 ghost use Rattle.read_text.specs.Promises.{JudgesLines, WritesBlock};
 
-use line_form::Form;
 use read_columns::Flaw;
 use read_records::Content;
 use units::{Answer, Bytes, Words};
@@ -38,11 +37,11 @@ fn block_size(records: Words) -> Bytes
 }
 
 // Judges a text: reads it into a block of no bytes, so that nothing is written.
-pub fn judge_lines(form: Form, text: &[u8]) -> Judged
-    ensures { JudgesLines form text.now result }
+pub fn judge_lines(text: &[u8]) -> Judged
+    ensures { JudgesLines text.now result }
 {
     let mut nothing = [0u8; 0];
-    match read_records::read(form, text, &mut nothing) {
+    match read_records::read(text, &mut nothing) {
         Content::Flawed(f) => Judged::Flawed(f),
         Content::RecordWords(n) => {
             let size = block_size(n);
@@ -52,28 +51,28 @@ pub fn judge_lines(form: Form, text: &[u8]) -> Judged
 }
 
 // Puts the block of an accepted text that has `records` record words, if the lent block has room for it.
-fn put_block(form: Form, text: &[u8], records: Words, block: &mut [u8]) -> Built
-    requires { judge_lines form text.now ≡ passed (bytes_of_words (records.0 + 2)) }
-    ensures { leaves (built_of result) block.new ≡ write_block form text.now block.old }
+fn put_block(text: &[u8], records: Words, block: &mut [u8]) -> Built
+    requires { judge_lines text.now ≡ passed (bytes_of_words (records.0 + 2)) }
+    ensures { leaves (built_of result) block.new ≡ write_block text.now block.old }
 {
     let needed = block_size(records);
     let size = needed.0;
     if block.len() < size {
         return Built::Short(needed);
     }
-    read_records::read(form, text, block);
+    read_records::read(text, block);
     words::seal(block, records);
     Built::Block(needed)
 }
 
 // Judges a text again, whoever may have judged it before, and writes its block.
-pub fn write_block(form: Form, text: &[u8], block: &mut [u8]) -> Built
-    ensures { WritesBlock form text.now block.old result block.new }
+pub fn write_block(text: &[u8], block: &mut [u8]) -> Built
+    ensures { WritesBlock text.now block.old result block.new }
 {
     let mut nothing = [0u8; 0];
-    match read_records::read(form, text, &mut nothing) {
+    match read_records::read(text, &mut nothing) {
         Content::Flawed(f) => Built::Refused(f),
-        Content::RecordWords(n) => put_block(form, text, n, block),
+        Content::RecordWords(n) => put_block(text, n, block),
     }
 }
 

@@ -1,18 +1,22 @@
 -- Document 01, "Answer numbers": "A refusal is given exactly when its row holds and none before it in the order does; otherwise the call succeeds."
--- For each order but a text's (`crates/text_refusals`) an input that passes, and changes of it in the paper's order, each of which makes a row hold. Of each two that are made the
+-- For each order an input that passes, and changes of it in the paper's order, each of which makes a row hold. Of each two that are made the
 -- first is told, and where it is mended the other. Where the first takes away what the later row is asked of, only the first holds of the two:
--- 5 with 7 to 9 (the kind says what is asked), 7 or 8 with 9 (other kinds);
--- 4 with 8, with a Header's 7, with 9's words 16 and 1 (these words are lacking); 6, and 9 at word 1, with the rows of the next record (where it begins is not known);
--- 45 with 46 (no entry is the last), 29 or 50 with a row before it (what is needed is not known);
+-- 5 with 7 to 9, 23 with the rows behind it on the line (the kind says what is asked), 7 or 8 with 9 (other kinds);
+-- 4 with 8, with a Header's 7, with 9's words 16 and 1 (these words are lacking), 25 with a row of the line that is lacking;
+-- 6, and 9 at word 1, with the rows of the next record (where it begins is not known); 22 of a count with 28 and 24, and it, 23 and 27 with 22, 25 and 26 of
+-- later lines (what is asked of them is not known); 28 of Data with 26 of the next line (a field stands there);
+-- 21 with 22 to 28 (a line that is not blank begins a record), 45 with 46 (no entry is the last), 29 or 50 with a row before it (what is needed is not known);
 -- in a slice of blocks 1 and 51 with the block's own and with the blocks behind it (where it ends is not known, or it is not all there), 51 of one byte left with 1 (no first word).
-use Rattle.std.specs.Prelude.{ℕ, ◌-◌, ◌<◌, ◌≡◌, List, [], ◌∷◌, ◌++◌, map, length, get_or, set, take}
+use Rattle.std.specs.Prelude.{ℕ, ◌+◌, ◌-◌, ◌<◌, ◌≡◌, List, [], ◌∷◌, ◌++◌, map, length, get_or, set, take, drop}
 use Rattle.units.specs.declared.Answer.{Answer}
 use Rattle.units.specs.Answers.{answer}
+use Rattle.units.specs.Units.{Line}
 use Rattle.words.specs.Words.{joined, block_from}
-use Rattle.line_form.specs.declared.Form.{Form}
-use Rattle.line_form.specs.declared.Form.TheVariants.{Unblocked, Blocked}
+use Rattle.field.specs.Writing.{blanks}
+use Rattle.write_parts.specs.Laid.{fields_of, ended}
+use Rattle.report.specs.Text.{text}
 use Rattle.sheet.specs.Sheets.{Entry}
-use Rattle.refusals.specs.Questions.{Question, judge_block, block_to_lines, amend_value, undo_last, repack_blocks, answer_to, Trial, AnsweredSo, cards_of, least_record, value_record, blank_card, in_place, turned, word_put, cut_to, none_stands, one_stands, all_stand}
+use Rattle.refusals.specs.Questions.{Question, judge_block, block_to_lines, judge_text, block_of_text, amend_value, undo_last, repack_blocks, answer_to, Trial, AnsweredSo, cards_of, least_record, value_record, blank_card, in_place, turned, word_put, cut_to, data_line, cards_line, free_fields, none_stands, one_stands, all_stand}
 
 -- a change of what is lent, and what is told when it alone is made
 abbrev pub Change : Type 0 → Type 0
@@ -146,16 +150,87 @@ unfoldable pub records_order : List (Change (List ℕ))
 unfolding size_order own_order
 records_order = size_order ++ own_order
 
--- "To lines: the block, then 29": of these, whose lines in this form have so many bytes
-abbrev pub lines_order : Form → ℕ → List Trial
-lines_order f bytes =
-    every_two (λ c. block_to_lines f c.input c.room) (record { input = three_records; room = bytes })
-    (in_part in_input records_order ++ room_order bytes)
-
--- 111, 202 and 97 bytes; filled they are three lines, two and one, of 120 bytes each
+-- "To lines: the block, then 29"; their lines have 111, 202 and 97 bytes
 unfoldable pub lines_orders : List Trial
 unfolding records_order every_two
-lines_orders = lines_order Unblocked 410 ++ lines_order Blocked 720
+lines_orders =
+    every_two (λ c. block_to_lines c.input c.room) (record { input = three_records; room = 410 })
+    (in_part in_input records_order ++ room_order 410)
+
+-- ---- "Order for text: 30, then line by line"
+
+-- these bytes on line n from column k on
+unfoldable pub on_line : ℕ → ℕ → List ℕ → List Line → List Line
+on_line n k bytes ls =
+    let l = get_or ls (n - 1) [] in
+    set ls (n - 1) (take (k - 1) (l ++ blanks (k - 1)) ++ bytes ++ drop (k - 1 + length bytes) l)
+
+-- a Data record of three lines: "20; fields 1 to 12; 23; ... (Data: 13 to 16); Data: 27, fields 17 on, then blank columns by 26"; then 28, 24, and each later line
+unfoldable pub data_lines_order : List (Change (List Line))
+unfolding on_line
+data_lines_order =
+    (on_line 1 104 (127 ∷ []), answer 20 1 104 0)
+    ∷ (on_line 1 67 (text "     x"), answer 22 1 67 0)
+    ∷ (on_line 1 7 (text "  1002"), answer 23 1 7 0)
+    ∷ (on_line 1 91 (text "     x"), answer 22 1 91 0)
+    ∷ (on_line 1 85 (text "    -1"), answer 27 1 85 0)
+    ∷ (on_line 1 97 (text "     x"), answer 22 1 97 0)
+    ∷ (on_line 1 103 (text "0"), answer 26 1 103 0)
+    ∷ (on_line 1 79 (text "  4000"), answer 28 1 1 0)
+    ∷ (on_line 1 1 (text "     2"), answer 24 1 1 0)
+    ∷ (on_line 2 8 (127 ∷ []), answer 20 2 8 0)
+    ∷ (on_line 2 1 (text "     x"), answer 22 2 1 0)
+    ∷ (on_line 2 7 (text "0"), answer 26 2 7 0)
+    ∷ (take 2, answer 25 3 1 0)
+    ∷ []
+
+-- "22 or 26 from left to right": two fields on line 2, the first at column k
+unfoldable pub left_to_right : ℕ → List (Change (List Line))
+unfolding on_line
+left_to_right k =
+    (on_line 2 k (text "     x"), answer 22 2 k 0)
+    ∷ (on_line 2 (k + 6) (text "     1"), answer 26 2 (k + 6) 0)
+    ∷ []
+
+-- "After that Catalogue and Header give 24, then 28": on line 2, behind a Catalogue of one line, with these changes of its further fields
+unfoldable pub first_line_order : List (Change (List Line)) → List (Change (List Line))
+unfolding on_line
+first_line_order further =
+    (on_line 2 109 (127 ∷ []), answer 20 2 109 0)
+    ∷ (on_line 2 67 (text "     x"), answer 22 2 67 0)
+    ∷ (on_line 2 7 (text "  2001"), answer 23 2 7 0)
+    ∷ (further ++ ((on_line 2 1 (text "   200"), answer 24 2 1 0) ∷ (on_line 2 1 (text "   199"), answer 28 2 1 0) ∷ []))
+
+-- cards, on lines 3 and 4
+unfoldable pub card_lines_order : List (Change (List Line))
+unfolding on_line
+card_lines_order = (on_line 3 82 (127 ∷ []), answer 20 3 82 0) ∷ (on_line 3 81 (text "0"), answer 26 3 81 0) ∷ (take 3, answer 25 4 1 0) ∷ []
+
+-- a bad byte on a blank line; no record behind it: "At the end 21"
+unfoldable pub blank_lines_order : List (Change (List Line))
+unfolding on_line
+blank_lines_order = (on_line 1 2 (9 ∷ []), answer 20 1 2 0) ∷ (take 1, answer 21 0 0 0) ∷ []
+
+-- of a text of these lines, which makes a block of so many bytes: "At the end 21, then 29"
+abbrev pub text_order : List Line → ℕ → List (Change (List Line)) → List Trial
+text_order lines bytes changes =
+    every_two (λ c. block_of_text (ended c.input) c.room) (record { input = lines; room = bytes })
+    (in_part in_input changes ++ room_order bytes)
+
+-- of a Data record; of a Catalogue, whose fields 13 to 20 must be zero; of a Header, whose fields 16 to 20 must; of a Data record behind a blank line
+unfoldable pub text_orders : List Trial
+unfolding data_lines_order left_to_right first_line_order card_lines_order blank_lines_order every_two
+text_orders =
+    text_order (data_line 3 (17 ∷ 1 ∷ 0 ∷ 0 ∷ 0 ∷ []) ∷ fields_of (7 ∷ []) ∷ fields_of (900 ∷ []) ∷ []) 42 data_lines_order
+    ++ text_order (cards_line 1 2101 ∷ cards_line 3 2101 ∷ [] ∷ [] ∷ []) 324 (first_line_order (left_to_right 73 ++ left_to_right 85) ++ card_lines_order)
+    ++ text_order (cards_line 1 2101 ∷ (cards_line 3 3101 ++ free_fields) ∷ [] ∷ [] ∷ []) 324 (first_line_order (left_to_right 85 ++ left_to_right 97) ++ card_lines_order)
+    ++ text_order ([] ∷ data_line 1 (16 ∷ 0 ∷ 0 ∷ 0 ∷ []) ∷ []) 36 blank_lines_order
+
+-- "30, then line by line": whatever else is wrong in a text that is too long
+abbrev pub LongFirst : Type 0
+LongFirst =
+    (lines : List ℕ) (room : ℕ) → 65536 < length lines →
+    (answer_to (judge_text lines) ≡ answer 30 0 0 0) × (answer_to (block_of_text lines room) ≡ answer 30 0 0 0)
 
 -- ---- "Amend: block, 40, 44, 41, 42, 43. Undo: block, 40, 45, 46"
 
@@ -234,4 +309,4 @@ LongSliceFirst = (slice : List ℕ) (room : ℕ) → 64000 < length slice → an
 
 -- each order is kept
 abbrev pub EveryOrder : Type 0
-EveryOrder = AnsweredSo block_orders × AnsweredSo lines_orders × AnsweredSo amend_orders × AnsweredSo undo_orders × AnsweredSo repack_orders
+EveryOrder = AnsweredSo block_orders × AnsweredSo lines_orders × AnsweredSo text_orders × AnsweredSo amend_orders × AnsweredSo undo_orders × AnsweredSo repack_orders

@@ -3,21 +3,22 @@ use Rattle.std.specs.Prelude.{ℕ, ◌+◌, ◌-◌, ◌≡◌, List, [], ◌∷
 use Rattle.std.specs.Int.Bits.{bit_xor}
 use Rattle.units.specs.declared.Answer.{Answer}
 use Rattle.units.specs.Answers.{answered}
+use Rattle.units.specs.Units.{Line}
 use Rattle.words.specs.Words.{words_of, bytes_of, word, block_from}
 use Rattle.block.specs.Judging.{inner, judged}
-use Rattle.line_form.specs.declared.Form.{Form}
+use Rattle.write_parts.specs.Laid.{fields_of}
 use Rattle.write_lines.specs.Text.{to_lines}
 use Rattle.read_text.specs.Block.{judge_lines, write_block}
 use Rattle.sheet.specs.Sheets.{Entry, version1, sheet_of, opened, started}
 use Rattle.amending.specs.Amending.{amend, undo}
 use Rattle.repacking.specs.Repacking.{repack}
 
--- a call and what is lent to it: the bytes of each buffer, and of an output how many there are; the form of the text that it writes or reads
+-- a call and what is lent to it: the bytes of each buffer, and of an output how many there are
 pub data Question : Type 0 where
   judge_block : List ℕ → Question
-  block_to_lines : Form → List ℕ → ℕ → Question
-  judge_text : Form → List ℕ → Question
-  block_of_text : Form → List ℕ → ℕ → Question
+  block_to_lines : List ℕ → ℕ → Question
+  judge_text : List ℕ → Question
+  block_of_text : List ℕ → ℕ → Question
   open_sheet : List ℕ → Question
   start_sheet : List ℕ → Question
   amend_value : List ℕ → List ℕ → Entry → Question
@@ -27,9 +28,9 @@ pub data Question : Type 0 where
 -- the four numbers that the call's definition answers
 abbrev pub answer_to : Question → Answer
 answer_to (judge_block block) = answered (judged block)
-answer_to (block_to_lines f block room) = (to_lines f block (replicate room 0)).answer
-answer_to (judge_text f lines) = answered (judge_lines f lines)
-answer_to (block_of_text f lines room) = (write_block f lines (replicate room 0)).answer
+answer_to (block_to_lines block room) = (to_lines block (replicate room 0)).answer
+answer_to (judge_text lines) = answered (judge_lines lines)
+answer_to (block_of_text lines room) = (write_block lines (replicate room 0)).answer
 answer_to (open_sheet sheet) = answered (opened version1 sheet)
 answer_to (start_sheet sheet) = (started version1 sheet).answer
 answer_to (amend_value block sheet entry) = (amend version1 entry block sheet).answer
@@ -85,6 +86,20 @@ word_put at k w block = turned (bit_xor (word (words_of block) (at + k)) w) (byt
 -- a block of the first n record words only
 unfoldable pub cut_to : ℕ → List ℕ → List ℕ
 cut_to n block = block_from (take n (inner (words_of block)))
+
+-- ---- lines
+
+-- a Data record's first line, where these are its fields 13 on
+abbrev pub data_line : ℕ → List ℕ → Line
+data_line lines ws = fields_of (lines ∷ 1101 ∷ replicate 10 0 ++ ws)
+
+-- fields 1 to 12 of a Catalogue or a Header, by its kind
+abbrev pub cards_line : ℕ → ℕ → Line
+cards_line lines kind = fields_of (lines ∷ kind ∷ replicate 10 0)
+
+-- a Header's further fields that are free, 13 to 15
+abbrev pub free_fields : Line
+free_fields = fields_of (1 ∷ 1 ∷ 1 ∷ [])
 
 -- ---- sheets
 

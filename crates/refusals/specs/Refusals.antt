@@ -1,11 +1,13 @@
--- Document 01, "Answer numbers", and document 02: for each call but those that read a text (`crates/text_refusals`) a least input for each of its refusals.
--- Where a row of a paper names several things, or has an edge, there is an input for each. What is proved is the answer, not that no shorter input has it.
+-- Document 01, "Answer numbers", and document 02: for each call a least input for each of its refusals. Where a row of a paper names several things, or has
+-- an edge, there is an input for each. What is proved is the answer, not that no shorter input has it.
 use Rattle.std.specs.Prelude.{ℕ, ◌-◌, List, [], ◌∷◌, ◌++◌, replicate, take}
 use Rattle.units.specs.declared.Answer.{Answer}
 use Rattle.units.specs.Answers.{answer}
 use Rattle.words.specs.Words.{bytes_of, block_from}
-use Rattle.line_form.specs.declared.Form.TheVariants.{Unblocked, Blocked}
-use Rattle.refusals.specs.Questions.{Trial, AnsweredSo, lent_to, judge_block, block_to_lines, open_sheet, start_sheet, amend_value, undo_last, repack_blocks, data_of, cards_of, least_record, value_record, blank_card, in_place, turned, word_put, none_stands, one_stands, all_stand}
+use Rattle.write_parts.specs.Laid.{fields_of}
+use Rattle.field.specs.Writing.{blanks}
+use Rattle.report.specs.Text.{text}
+use Rattle.refusals.specs.Questions.{Trial, AnsweredSo, lent_to, judge_block, block_to_lines, judge_text, block_of_text, open_sheet, start_sheet, amend_value, undo_last, repack_blocks, data_of, cards_of, least_record, value_record, blank_card, in_place, turned, word_put, data_line, cards_line, free_fields, none_stands, one_stands, all_stand}
 
 -- the block of the least record, 18 words
 abbrev pub least_block : List ℕ
@@ -72,22 +74,89 @@ bad_blocks =
     ∷ (word_put 0 1 17 least_block, answer 2 0 0 0)
     ∷ stated_blocks
 
--- "Judge a binary block"; "To lines: the block, then 29", in either form; "Amend: block, 40"; "Undo: block, 40": the others with no room and no sheet
+-- "Judge a binary block"; "To lines: the block, then 29"; "Amend: block, 40"; "Undo: block, 40": the others with no room and no sheet
 unfoldable pub block_trials : List Trial
 unfolding bad_blocks
 block_trials =
     lent_to judge_block bad_blocks
-    ++ lent_to (λ b. block_to_lines Unblocked b 0) bad_blocks
-    ++ lent_to (λ b. block_to_lines Blocked b 0) bad_blocks
+    ++ lent_to (λ b. block_to_lines b 0) bad_blocks
     ++ lent_to (λ b. amend_value b [] (0 ∷ 0 ∷ 0 ∷ 0 ∷ [])) bad_blocks
     ++ lent_to (λ b. undo_last b []) bad_blocks
 
--- "output shorter than needed": a byte short of 16 fields and LF, and of a line of 120 bytes; with all of these it is written
+-- texts that are refused; a line may end with the text
+unfoldable pub bad_texts : List (List ℕ × Answer)
+unfolding fields_of
+bad_texts =
+    -- "line over 120"; bad bytes, the last of them a CR with no LF behind it
+    (blanks 121, answer 20 1 121 0)
+    ∷ (31 ∷ [], answer 20 1 1 0)
+    ∷ (127 ∷ [], answer 20 1 1 0)
+    ∷ (13 ∷ [], answer 20 1 1 0)
+    -- "first such column"
+    ∷ (blanks 4 ++ (127 ∷ 127 ∷ []), answer 20 1 5 0)
+    ∷ (blanks 4 ++ (127 ∷ blanks 116), answer 20 1 5 0)
+    -- no line at all, and blank lines only; CR LF ends one
+    ∷ ([], answer 21 0 0 0)
+    ∷ (32 ∷ 10 ∷ 10 ∷ [], answer 21 0 0 0)
+    ∷ (13 ∷ 10 ∷ [], answer 21 0 0 0)
+    -- no digit in the last column of field 1; field 2 is blank
+    ∷ (text "0", answer 22 1 1 0)
+    ∷ (text "     0", answer 22 1 7 0)
+    ∷ (cards_line 0 0, answer 23 1 7 0)
+    -- "Catalogue and Header have 1 to 199 lines"
+    ∷ (cards_line 0 2101, answer 24 1 1 0)
+    ∷ (cards_line 200 2101, answer 24 1 1 0)
+    ∷ (cards_line 0 3101 ++ free_fields, answer 24 1 1 0)
+    ∷ (cards_line 200 3101 ++ free_fields, answer 24 1 1 0)
+    -- "not the lines its four counts need", "20 fields a line"
+    ∷ (data_line 2 (16 ∷ 0 ∷ 0 ∷ 0 ∷ []), answer 24 1 1 0)
+    ∷ (data_line 2 (16 ∷ 0 ∷ 21 ∷ 0 ∷ []), answer 24 1 1 0)
+    -- a card is lacking; the codes are, on one line or two
+    ∷ (cards_line 2 2101, answer 25 2 1 0)
+    ∷ (data_line 3 (16 ∷ 1 ∷ 0 ∷ 0 ∷ []), answer 25 2 1 0)
+    ∷ (data_line 2 (16 ∷ 0 ∷ 20 ∷ 0 ∷ []), answer 25 2 1 0)
+    ∷ (data_line 3 (16 ∷ 0 ∷ 21 ∷ 0 ∷ []), answer 25 2 1 0)
+    -- blank columns: behind the fields of a first line, of a later one, and behind a card
+    ∷ (data_line 1 (16 ∷ 0 ∷ 0 ∷ 0 ∷ []) ++ text "0", answer 26 1 97 0)
+    ∷ (data_line 1 (16 ∷ 0 ∷ 0 ∷ 0 ∷ []) ++ text " 0 0", answer 26 1 98 0)
+    ∷ (data_line 3 (16 ∷ 1 ∷ 0 ∷ 0 ∷ []) ++ (10 ∷ text "     70"), answer 26 2 7 0)
+    ∷ (cards_line 2 2101 ++ (10 ∷ blanks 80 ++ text "0"), answer 26 2 81 0)
+    -- the fields that must be zero, the first and the last
+    ∷ (cards_line 1 2101 ++ text "     1", answer 26 1 73 0)
+    ∷ (cards_line 1 2101 ++ blanks 42 ++ text "     1", answer 26 1 115 0)
+    ∷ (cards_line 1 3101 ++ free_fields ++ text "     1", answer 26 1 91 0)
+    ∷ (cards_line 1 3101 ++ free_fields ++ blanks 24 ++ text "     1", answer 26 1 115 0)
+    -- LPROL 15, -1 for each of the others, and for two of them
+    ∷ (data_line 1 (15 ∷ 0 ∷ 0 ∷ 0 ∷ []), answer 27 1 73 0)
+    ∷ (data_line 1 (16 ∷ 0xFFFF ∷ 0 ∷ 0 ∷ []), answer 27 1 79 0)
+    ∷ (data_line 1 (16 ∷ 0 ∷ 0xFFFF ∷ 0 ∷ []), answer 27 1 85 0)
+    ∷ (data_line 1 (16 ∷ 0 ∷ 0 ∷ 0xFFFF ∷ []), answer 27 1 91 0)
+    ∷ (data_line 1 (16 ∷ 0xFFFF ∷ 0 ∷ 0xFFFF ∷ []), answer 27 1 79 0)
+    -- 16 and 7,983 words; a Catalogue's 40, then one of 199 lines, 7,960
+    ∷ (data_line 7984 (16 ∷ 0 ∷ 1 ∷ 7982 ∷ []), answer 28 1 1 0)
+    ∷ (cards_line 1 2101 ++ (10 ∷ cards_line 199 2101), answer 28 2 1 0)
+    ∷ (cards_line 1 2101 ++ (10 ∷ cards_line 199 3101 ++ free_fields), answer 28 2 1 0)
+    ∷ (replicate 65537 10, answer 30 0 0 0)
+    ∷ []
+
+-- "Judging gives every text refusal but 29; writing gives all of them", here with no room
+unfoldable pub text_trials : List Trial
+unfolding bad_texts
+text_trials = lent_to judge_text bad_texts ++ lent_to (λ t. block_of_text t 0) bad_texts
+
+-- 7,998 record words, as many as a block takes: a Catalogue of 199 lines, and a Data record of 38 words on two
+abbrev pub full_text : List ℕ
+full_text = cards_line 199 2101 ++ replicate 199 10 ++ data_line 2 (38 ∷ 0 ∷ 0 ∷ 0 ∷ replicate 4 0) ++ (10 ∷ fields_of (replicate 18 0))
+
+-- "output shorter than needed": a byte short of 16 fields and LF, and of 18 words; "gives the block's size in bytes": of 18 words, and of 8,000
 unfoldable pub room_trials : List Trial
+unfolding fields_of
 room_trials =
-    (block_to_lines Unblocked least_block 96, answer 29 97 0 0)
-    ∷ (block_to_lines Blocked least_block 119, answer 29 120 0 0)
-    ∷ (block_to_lines Blocked least_block 120, answer 0 120 0 0)
+    (block_to_lines least_block 96, answer 29 97 0 0)
+    ∷ (block_of_text (data_line 1 (16 ∷ 0 ∷ 0 ∷ 0 ∷ [])) 35, answer 29 36 0 0)
+    ∷ (judge_text (data_line 1 (16 ∷ 0 ∷ 0 ∷ 0 ∷ [])), answer 0 36 0 0)
+    ∷ (judge_text full_text, answer 0 16000 0 0)
+    ∷ (block_of_text full_text 15999, answer 29 16000 0 0)
     ∷ []
 
 -- a sheet opened, and "start an amendment sheet"
@@ -212,4 +281,4 @@ repack_trials =
 
 -- each of them is answered so
 abbrev pub EveryRefusal : Type 0
-EveryRefusal = AnsweredSo block_trials × AnsweredSo room_trials × AnsweredSo sheet_trials × AnsweredSo amend_trials × AnsweredSo undo_trials × AnsweredSo repack_trials
+EveryRefusal = AnsweredSo block_trials × AnsweredSo text_trials × AnsweredSo room_trials × AnsweredSo sheet_trials × AnsweredSo amend_trials × AnsweredSo undo_trials × AnsweredSo repack_trials

@@ -23,8 +23,3 @@ module _ (Row : ℕ → Type 0) where
   pub known_as : {A : Type 0} (P Q : A → Type 0) (v : Verdict A) → Known Row P v → ((x : A) → P x → Q x) → Known Row Q v
   known_as P Q (passed x) h f = f x h
   known_as P Q (refused r) h f = h
-
--- and so may the rows
-pub known_rows : {A : Type 0} (Row More : ℕ → Type 0) (P : A → Type 0) (v : Verdict A) → ((n : ℕ) → Row n → More n) → Known Row P v → Known More P v
-known_rows Row More P (passed x) f h = h
-known_rows Row More P (refused r) f h = record { listed = f r.n h.listed; packs = h.packs }

@@ -32,7 +32,3 @@ columns_of_fields w = 6 * w
 -- "Every line ends with LF"
 abbrev pub ends_of_lines : ℕ → ℕ
 ends_of_lines l = l
-
--- document 02, request 3: "lines filled with blanks to 120 bytes and run together without line ends", so "Its length is 120 times the lines"
-abbrev pub bytes_of_lines : ℕ → ℕ
-bytes_of_lines l = 120 * l

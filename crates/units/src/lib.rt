@@ -1,6 +1,6 @@
 // The three units of the format, kept apart, with the named conversions between them; and the four numbers of an answer.
 ghost use Rattle.std.specs.Prelude.{◌≡◌, ◌+◌, ◌*◌, ◌/◌, ◌^◌, ◌<◌};
-ghost use Rattle.units.specs.Units.{bytes_of_words, words_of_bytes, lines_of_cards, words_of_cards, lines_of_fields, columns_of_fields, ends_of_lines, bytes_of_lines};
+ghost use Rattle.units.specs.Units.{bytes_of_words, words_of_bytes, lines_of_cards, words_of_cards, lines_of_fields, columns_of_fields, ends_of_lines};
 ghost use Rattle.units.specs.Answers.{answer, fitted, packed_of};
 
 // A count of 16-bit words, as LTOT of a binary record.
@@ -153,12 +153,4 @@ pub fn ends_of_lines(l: Lines) -> Bytes
     ensures { result.0 ≡ ends_of_lines l.0 }
 {
     Bytes(l.0)
-}
-
-// The bytes of `l` blocked lines, 120 each.
-pub fn bytes_of_lines(l: Lines) -> Bytes
-    requires { l.0 < 2 ^ 32 }
-    ensures { result.0 ≡ bytes_of_lines l.0 }
-{
-    Bytes(120 * l.0)
 }

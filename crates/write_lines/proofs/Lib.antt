@@ -1,3 +1,2 @@
-pub mod Widths
 pub mod Sizes
 pub mod Outcome

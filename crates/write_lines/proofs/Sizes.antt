@@ -1,17 +1,16 @@
 -- How many lines and bytes a record's text has.
 use mathlib.Core.Path.{◌≡◌, refl, sym, ap, ◌∙◌}
 use mathlib.Core.Bool.{true, false}
-use mathlib.Core.List.{List, [], ◌∷◌, ◌++◌}
+use mathlib.Core.List.{List, [], ◌∷◌, ◌++◌, append_assoc}
 use Prim.Native.Nat.{ℕ, zero, suc, ◌+◌, ◌-◌, ◌*◌, ◌/◌, ◌%◌, ◌≤◌}
-use native.Mathlib.Nat.{mul-add, mul-le-mul_left, mul-le-mul_right}
+use native.Mathlib.Nat.{mul-le-mul_right}
 use native.Mathlib.Omega.{arith}
 use borrow.Author.Tests.{ne_eqb}
 use lib.Dec.{eqb}
 use lib.ListN.{length, take, drop, length-append, length-drop}
 use lib.Seq.{length-take-le}
-use Rattle.units.specs.Units.{lines_of_fields, bytes_of_lines}
-use Rattle.words.specs.Words.{word, bytes_of, joined, most_record_words, All, Below}
-use Rattle.words.proofs.Lists.{all_append}
+use Rattle.units.specs.Units.{lines_of_fields}
+use Rattle.words.specs.Words.{word, bytes_of, joined, All, Below}
 use Rattle.words.proofs.Laws.{length_bytes_of}
 use Rattle.counts.specs.Counts.{counts_of, words_needed, lines_needed}
 use Rattle.record.specs.Lines.{line_count}
@@ -21,31 +20,26 @@ use Rattle.block.specs.Records.{records_of}
 use Rattle.block.proofs.Exact.{only_good}
 use Rattle.line_plan.specs.Plan.{data_plan, kind_shown, shown_words}
 use Rattle.line_plan.proofs.Plans.{fields_in, length-plan, fields_in-plan}
-use Rattle.line_form.specs.declared.Form.{Form}
-use Rattle.line_form.specs.declared.Form.TheVariants.{Unblocked, Blocked}
-use Rattle.line_form.specs.Form.{ended}
-use Rattle.line_form.proofs.Ends.{ended-append, length_unblocked, length_blocked}
-use Rattle.write_parts.specs.Laid.{fields_of, laid, card_lines}
+use Rattle.write_parts.specs.Laid.{fields_of, laid, card_lines, ended}
 use Rattle.write_parts.proofs.Turns.{length_fields_of}
 use Rattle.write_lines.specs.Lines.{lines_of, columns_in}
-use Rattle.write_lines.specs.Text.{text_of, all_lines, longest_text}
-use Rattle.write_lines.proofs.Widths.{plan_narrow, fields_width, laid_width, cards_width}
+use Rattle.write_lines.specs.Text.{text_of}
 
 length-laid : (ns ws : List ℕ) → length (laid ns ws) ≡ length ns
 unfolding laid
 length-laid [] ws = refl
 length-laid (n ∷ ns) ws = ap suc (length-laid ns (drop n ws))
 
-laid-columns : (ns ws : List ℕ) → fields_in ns ≤ length ws → length (joined (laid ns ws)) ≡ 6 * fields_in ns
-unfolding joined laid fields_in
-laid-columns [] ws h = refl
-laid-columns (n ∷ ns) ws h =
+length-text : (ns ws : List ℕ) → fields_in ns ≤ length ws → length (ended (laid ns ws)) ≡ 6 * fields_in ns + length ns
+unfolding ended laid fields_in
+length-text [] ws h = refl
+length-text (n ∷ ns) ws h =
     omega (
       arith,
-      length-append (fields_of (take n ws)) (joined (laid ns (drop n ws))),
+      length-append (fields_of (take n ws)) (10 ∷ ended (laid ns (drop n ws))),
       length_fields_of (take n ws),
       length-take-le n ws (omega arith),
-      laid-columns ns (drop n ws) (omega (arith, length-drop n ws)),
+      length-text ns (drop n ws) (omega (arith, length-drop n ws)),
     )
 
 length_cards : (n : ℕ) (ws : List ℕ) → length (card_lines n ws) ≡ n
@@ -53,25 +47,28 @@ unfolding card_lines
 length_cards zero ws = refl
 length_cards (suc n) ws = ap suc (length_cards n (drop 40 ws))
 
-card_columns : (n : ℕ) (ws : List ℕ) → n * 40 ≤ length ws → length (joined (card_lines n ws)) ≡ 80 * n
-unfolding joined card_lines
-card_columns zero ws h = refl
-card_columns (suc n) ws h =
+cards_text : (n : ℕ) (ws : List ℕ) → n * 40 ≤ length ws → length (ended (card_lines n ws)) ≡ 81 * n
+unfolding ended card_lines
+cards_text zero ws h = refl
+cards_text (suc n) ws h =
     omega (
       arith,
-      length-append (bytes_of (take 40 ws)) (joined (card_lines n (drop 40 ws))),
+      length-append (bytes_of (take 40 ws)) (10 ∷ ended (card_lines n (drop 40 ws))),
       length_bytes_of (take 40 ws),
       length-take-le 40 ws (omega arith),
-      card_columns n (drop 40 ws) (omega (arith, length-drop 40 ws)),
+      cards_text n (drop 40 ws) (omega (arith, length-drop 40 ws)),
     )
 
--- what is known of a record's lines, in whatever form they are written
+-- a record's text: the columns of its lines, and their ends
+unfoldable pub size_of : List ℕ → ℕ
+size_of r = columns_in (word r 2) (length r) + line_count r
+
+-- what is known of a record's lines
 pub record Sized (r : List ℕ) : Type 0 where
   pub lines : length (lines_of r) ≡ line_count r
-  pub columns : length (joined (lines_of r)) ≡ columns_in (word r 2) (length r)
-  pub short : All (λ l. length l ≤ 120) (lines_of r)
+  pub bytes : length (ended (lines_of r)) ≡ size_of r
   pub count_most : line_count r + 15 ≤ length r
-  pub size_most : columns_in (word r 2) (length r) + line_count r + 15 ≤ 7 * length r
+  pub size_most : size_of r + 15 ≤ 7 * length r
 
 module _ (r : List ℕ) where
   module _ (e : eqb (word r 2) 1002 ≡ false) where
@@ -79,7 +76,8 @@ module _ (r : List ℕ) where
     unfolding line_count
     cards-count = simp e
 
-    cards-size : columns_in (word r 2) (length r) ≡ 120 + (length r - 40) * 2
+    cards-size : size_of r ≡ 120 + (length r - 40) * 2 + line_count r
+    unfolding size_of
     cards-size = simp e
 
     pub cards-lines : lines_of r ≡ fields_of (take 20 (shown_words r)) ∷ card_lines (line_count r - 1) (drop 40 r)
@@ -87,31 +85,31 @@ module _ (r : List ℕ) where
     cards-lines = simp e
 
     cards-sized : (z : ℕ) → CardsOk z r → Sized r
-    unfolding joined
+    unfolding ended
     cards-sized z c =
         let n = cards-count in
         let s = c.size in
         let sh : length (shown_words r) ≡ length r = omega (arith, length-drop 2 r) in
         let l : length (lines_of r) ≡ line_count r = ap length cards-lines ∙ omega (arith, length_cards (line_count r - 1) (drop 40 r)) in
-        let t : length (joined (lines_of r)) ≡ columns_in (word r 2) (length r) =
-        ap (λ ls. length (joined ls)) cards-lines
+        let t : length (ended (lines_of r)) ≡ size_of r =
+        ap (λ ls. length (ended ls)) cards-lines
         ∙ omega (
           arith,
           cards-size,
-          length-append (fields_of (take 20 (shown_words r))) (joined (card_lines (line_count r - 1) (drop 40 r))),
+          length-append (fields_of (take 20 (shown_words r))) (10 ∷ ended (card_lines (line_count r - 1) (drop 40 r))),
           length_fields_of (take 20 (shown_words r)),
           length-take-le 20 (shown_words r) (omega arith),
-          card_columns (line_count r - 1) (drop 40 r) (omega (arith, length-drop 40 r)),
+          cards_text (line_count r - 1) (drop 40 r) (omega (arith, length-drop 40 r)),
         ) in
-        let w : All (λ l. length l ≤ 120) (lines_of r) = rw cards-lines (fields_width 20 (shown_words r) (omega arith), cards_width (line_count r - 1) (drop 40 r)) in
-        record { lines = l; columns = t; short = w; count_most = omega arith; size_most = omega (arith, cards-size) }
+        record { lines = l; bytes = t; count_most = omega arith; size_most = omega (arith, cards-size) }
 
   module _ (e : eqb (word r 2) 1002 ≡ true) where
     pub data-count : line_count r ≡ lines_needed (counts_of r)
     unfolding line_count
     data-count = simp e
 
-    pub data-size : columns_in (word r 2) (length r) ≡ 6 * length r
+    pub data-size : size_of r ≡ 6 * length r + line_count r
+    unfolding size_of
     data-size = simp e
 
     pub data-lines : lines_of r ≡ laid (data_plan r) (shown_words r)
@@ -129,10 +127,9 @@ module _ (r : List ℕ) where
         let f = fields_in-plan c in
         let p = length-plan c in
         let l : length (lines_of r) ≡ line_count r = ap length data-lines ∙ length-laid (data_plan r) (shown_words r) ∙ p ∙ sym n in
-        let t : length (joined (lines_of r)) ≡ columns_in (word r 2) (length r) =
-        ap (λ ls. length (joined ls)) data-lines ∙ omega (arith, data-size, laid-columns (data_plan r) (shown_words r) (omega arith)) in
-        let w : All (λ l. length l ≤ 120) (lines_of r) = rw data-lines (laid_width (data_plan r) (shown_words r) (plan_narrow c)) in
-        record { lines = l; columns = t; short = w; count_most = omega arith; size_most = omega (arith, data-size) }
+        let t : length (ended (lines_of r)) ≡ size_of r =
+        ap (λ ls. length (ended ls)) data-lines ∙ omega (arith, data-size, length-text (data_plan r) (shown_words r) (omega arith)) in
+        record { lines = l; bytes = t; count_most = omega arith; size_most = omega (arith, data-size) }
 
 pub record_sized : (r : List ℕ) → RecordOk r → Sized r
 record_sized r h = by h.kind
@@ -142,83 +139,42 @@ record_sized r h = by h.kind
     by (header e c) = cards-sized r (ap (λ k. eqb k 1002) e) 16 c
     by (data_record e d) = data-sized r (ap (λ k. eqb k 1002) e) d
 
-pub lines_short : (r : List ℕ) → RecordOk r → All (λ l. length l ≤ 120) (lines_of r)
-lines_short r h = (record_sized r h).short
-
--- the bytes of a record's text: the columns of its lines, and their ends; or its lines, filled
-unfoldable pub size_of : Form → List ℕ → ℕ
-size_of Unblocked r = columns_in (word r 2) (length r) + line_count r
-size_of Blocked r = bytes_of_lines (line_count r)
-
-pub record_bytes : (f : Form) (r : List ℕ) → RecordOk r → length (ended f (lines_of r)) ≡ size_of f r
-unfolding size_of
-record_bytes Unblocked r h = let z = record_sized r h in omega (arith, length_unblocked (lines_of r), z.columns, z.lines)
-record_bytes Blocked r h = let z = record_sized r h in omega (arith, length_blocked (lines_of r) z.short, z.lines)
-
 -- the size as it is added up
 pub size_read : (r : List ℕ) (kind n columns ends : ℕ) → RecordOk r → kind ≡ word r 2 → n ≡ length r → columns ≡ columns_in kind n → ends ≡ line_count r
-    → (columns + ends ≡ length (ended Unblocked (lines_of r))) × (columns + ends ≤ 7 * length r)
+    → (columns + ends ≡ length (ended (lines_of r))) × (columns + ends ≤ 7 * length r)
 unfolding size_of
 size_read r kind n columns ends h k e c l = let z = record_sized r h in let same : columns ≡ columns_in (word r 2) (length r) = c ∙ rw (k, e) in
-    (omega (arith, record_bytes Unblocked r h), omega (arith, z.size_most))
+    (omega (arith, z.bytes), omega (arith, z.size_most))
 
--- a text has at most so many bytes for each record word, and so many fewer in all
-abbrev pub per_word : Form → ℕ
-per_word Unblocked = 7
-per_word Blocked = 120
-
-abbrev pub fewer : Form → ℕ
-fewer Unblocked = 15
-fewer Blocked = 1800
-
-record_size_most : (f : Form) (r : List ℕ) → RecordOk r → length (ended f (lines_of r)) + fewer f ≤ per_word f * length r
-unfolding size_of
-record_size_most Unblocked r h = omega (arith, record_bytes Unblocked r h, (record_sized r h).size_most)
-record_size_most Blocked r h = omega (arith, record_bytes Blocked r h, (record_sized r h).count_most)
-
-pub text_size_most : (f : Form) (rs : List (List ℕ)) → All RecordOk rs → 1 ≤ length rs → length (text_of f rs) + fewer f ≤ per_word f * length (joined rs)
+-- a block's text has fewer than seven bytes for each of its record words
+pub text_size_most : (rs : List (List ℕ)) → All RecordOk rs → 1 ≤ length rs → length (text_of rs) + 15 ≤ 7 * length (joined rs)
 unfolding text_of joined
-text_size_most f [] h s = absurd (omega arith)
-text_size_most f (r ∷ []) h s =
+text_size_most [] h s = absurd (omega arith)
+text_size_most (r ∷ []) h s =
+    let z = record_sized r h.0 in
+    omega (arith, z.bytes, z.size_most, length-append (ended (lines_of r)) [], length-append r [])
+text_size_most (r ∷ (q ∷ rs)) h s =
+    let z = record_sized r h.0 in
     omega (
       arith,
-      record_size_most f r h.0,
-      length-append (ended f (lines_of r)) [],
-      ap (λ n. per_word f * n) (length-append r []),
-      mul-add (per_word f) (length r) 0,
-    )
-text_size_most f (r ∷ (q ∷ rs)) h s =
-    omega (
-      arith,
-      record_size_most f r h.0,
-      text_size_most f (q ∷ rs) h.1 (omega arith),
-      length-append (ended f (lines_of r)) (text_of f (q ∷ rs)),
-      ap (λ n. per_word f * n) (length-append r (joined (q ∷ rs))),
-      mul-add (per_word f) (length r) (length (joined (q ∷ rs))),
+      z.bytes,
+      z.size_most,
+      text_size_most (q ∷ rs) h.1 (omega arith),
+      length-append (ended (lines_of r)) (text_of (q ∷ rs)),
+      length-append r (joined (q ∷ rs)),
     )
 
--- a block's text is all its records' lines
-pub text_lines : (f : Form) (rs : List (List ℕ)) → text_of f rs ≡ ended f (all_lines rs)
-unfolding text_of all_lines ended
-text_lines f [] = refl
-text_lines f (r ∷ rs) = ap (λ t. ended f (lines_of r) ++ t) (text_lines f rs) ∙ sym (ended-append f (lines_of r) (all_lines rs))
-
-pub all_short : (rs : List (List ℕ)) → All RecordOk rs → All (λ l. length l ≤ 120) (all_lines rs)
-unfolding all_lines
-all_short [] h = tt
-all_short (r ∷ rs) h = all_append (λ l. length l ≤ 120) (lines_of r) (all_lines rs) (lines_short r h.0) (all_short rs h.1)
-
--- "Its length is 120 times the lines"
-pub blocked_size : (rs : List (List ℕ)) → All RecordOk rs → length (text_of Blocked rs) ≡ bytes_of_lines (length (all_lines rs))
-blocked_size rs h = ap length (text_lines Blocked rs) ∙ length_blocked (all_lines rs) (all_short rs h)
-
--- a Data record's lines, and a Catalogue's or a Header's, as they are written
-pub data_is : (r : List ℕ) → word r 2 ≡ 1002 → lines_of r ≡ laid (data_plan r) (line_count r ∷ (1101 ∷ drop 2 r))
-data_is r e = data-lines r (ap (λ k. eqb k 1002) e) ∙ ap (λ k. laid (data_plan r) (line_count r ∷ (kind_shown k ∷ drop 2 r))) e
+-- a Data record's text, and a Catalogue's or a Header's
+pub data_is : (r : List ℕ) → word r 2 ≡ 1002 → ended (lines_of r) ≡ ended (laid (data_plan r) (line_count r ∷ (1101 ∷ drop 2 r)))
+data_is r e = ap ended (data-lines r (ap (λ k. eqb k 1002) e)) ∙ ap (λ k. ended (laid (data_plan r) (line_count r ∷ (kind_shown k ∷ drop 2 r)))) e
 
 pub cards_are : (r : List ℕ) (lines kind cards : ℕ) → (word r 2 ≡ 1002 → ⊥) → lines ≡ line_count r → kind ≡ kind_shown (word r 2) → cards ≡ line_count r - 1
-    → lines_of r ≡ fields_of (take 20 (lines ∷ (kind ∷ drop 2 r))) ∷ card_lines cards (drop 40 r)
-cards_are r lines kind cards h l k n = rw (l, k, n) (cards-lines r (ne_eqb (word r 2) 1002 h))
+    → ended (lines_of r) ≡ (fields_of (take 20 (lines ∷ (kind ∷ drop 2 r))) ++ (10 ∷ [])) ++ ended (card_lines cards (drop 40 r))
+unfolding ended
+cards_are r lines kind cards h l k n =
+    rw (l, k, n)
+    (ap ended (cards-lines r (ne_eqb (word r 2) 1002 h))
+    ∙ sym (append_assoc (fields_of (take 20 (shown_words r))) (10 ∷ []) (ended (card_lines (line_count r - 1) (drop 40 r)))))
 
 -- what a good record is by its kind
 pub record Cards (r : List ℕ) : Type 0 where
@@ -240,17 +196,8 @@ is_cards r h ne = by h.kind
     by (header f c) = of 16 c
     by (data_record f d) = absurd (ne f)
 
--- "It is never longer than 55,971 bytes", and blocked than 957,960
-pub text_bound : (f : Form) (b : List ℕ) → Below 256 b → Accepted b → length (text_of f (records_of b)) ≤ longest_text f
-text_bound f b h a =
+-- "It is never longer than 55,971 bytes"
+pub text_bound : (b : List ℕ) → Below 256 b → Accepted b → length (text_of (records_of b)) ≤ 55971
+text_bound b h a =
     let g = (only_good b a.count h a.is).0 in
-    omega (arith, text_size_most f (records_of b) g.each g.some, mul-le-mul_left (per_word f) g.most, bound f)
-  where
-    bound : (f : Form) → per_word f * most_record_words ≡ longest_text f + fewer f
-    bound Unblocked = refl
-    bound Blocked = refl
-
--- either has room in an answer
-pub most_any : (f : Form) → longest_text f ≤ 957960
-most_any Unblocked = omega arith
-most_any Blocked = omega arith
+    omega (arith, text_size_most (records_of b) g.each g.some, g.most)

@@ -7,9 +7,7 @@ use Rattle.units.specs.Units.{Line, columns_of_fields, bytes_of_words}
 use Rattle.line_plan.specs.Plan.{data_plan, shown_words}
 use Rattle.block.specs.Rules.{BlockRecord}
 use Rattle.words.specs.Writing.{Room}
-use Rattle.line_form.specs.declared.Form.{Form}
-use Rattle.line_form.specs.Form.{ended}
-use Rattle.write_parts.specs.Laid.{fields_of, laid, card_lines}
+use Rattle.write_parts.specs.Laid.{fields_of, laid, card_lines, ended}
 
 -- a record's lines; "a Catalogue or Header prologue is one line of 20 fields"
 unfoldable pub lines_of : List ℕ → List Line
@@ -21,7 +19,7 @@ lines_of r =
 abbrev pub columns_in : ℕ → ℕ → ℕ
 columns_in kind n = if eqb kind 1002 then columns_of_fields n else columns_of_fields 20 + bytes_of_words (n - 40)
 
--- a record of a block, and room for its lines in this form
-pub record Writable (f : Form) (whole out : List ℕ) (at : ℕ) : Type 0 where
+-- a record of a block, and room for its lines
+pub record Writable (whole out : List ℕ) (at : ℕ) : Type 0 where
   pub good : BlockRecord (words_of whole)
-  pub room : Room out at (ended f (lines_of (words_of whole)))
+  pub room : Room out at (ended (lines_of (words_of whole)))

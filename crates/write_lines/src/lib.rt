@@ -4,7 +4,7 @@ ghost use Rattle.words.specs.Words.{word, words_of, most_record_words};
 ghost use Rattle.words.specs.Writing.{Room, Put};
 ghost use Rattle.record.specs.Lines.{line_count};
 ghost use Rattle.block.specs.Rules.{BlockRecord};
-ghost use Rattle.line_form.specs.Form.{ended};
+ghost use Rattle.write_parts.specs.Laid.{ended};
 ghost use Rattle.line_plan.specs.Plan.{kind_shown};
 ghost use Rattle.write_lines.specs.Lines.{lines_of, columns_in, Writable};
 ghost use Rattle.write_lines.specs.Text.{text_of};
@@ -16,7 +16,6 @@ ghost use Rattle.block.specs.Judging.{Accepted};
 ghost use Rattle.block.specs.Records.{records_of};
 
 use block::{Judged, Refusal};
-use line_form::Form;
 use units::{Answer, Bytes, Lines, Words};
 
 // What becomes of a block: the bytes of its text, its refusal, or a text that is too short for the bytes needed.
@@ -49,36 +48,36 @@ fn count_shown(whole: &[u8]) -> u16
 }
 
 // Writes a Data record's lines.
-fn write_data(form: Form, whole: &[u8], out: &mut [u8], at: Bytes) -> Bytes
-    requires { Writable form whole.now out.old at.0 × (word (words_of whole.now) 2 ≡ 1002) }
-    ensures { Put out.old at.0 (ended form (lines_of (words_of whole.now))) out.new result.0 }
+fn write_data(whole: &[u8], out: &mut [u8], at: Bytes) -> Bytes
+    requires { Writable whole.now out.old at.0 × (word (words_of whole.now) 2 ≡ 1002) }
+    ensures { Put out.old at.0 (ended (lines_of (words_of whole.now))) out.new result.0 }
 {
     let lines = count_shown(whole);
     let counts = counts::counts_of(whole);
-    write_parts::write_plan(form, whole, lines, counts, out, at)
+    write_parts::write_plan(whole, lines, counts, out, at)
 }
 
 // Writes a Catalogue's or a Header's lines.
-fn write_carded(form: Form, whole: &[u8], out: &mut [u8], at: Bytes) -> Bytes
-    requires { Writable form whole.now out.old at.0 × (word (words_of whole.now) 2 ≡ 1002 → ⊥) }
-    ensures { Put out.old at.0 (ended form (lines_of (words_of whole.now))) out.new result.0 }
+fn write_carded(whole: &[u8], out: &mut [u8], at: Bytes) -> Bytes
+    requires { Writable whole.now out.old at.0 × (word (words_of whole.now) 2 ≡ 1002 → ⊥) }
+    ensures { Put out.old at.0 (ended (lines_of (words_of whole.now))) out.new result.0 }
 {
     let lines = count_shown(whole);
     let kind = kind_shown(words::word_at(whole, Words(1)));
     let cards = units::lines_said(lines).0 - 1;
-    let to = write_parts::write_head(form, whole, lines, kind, Words(20), out, at);
-    write_parts::write_cards(form, whole, Words(40), Lines(cards), out, to)
+    let to = write_parts::write_head(whole, lines, kind, Words(20), out, at);
+    write_parts::write_cards(whole, Words(40), Lines(cards), out, to)
 }
 
 // Writes a good record's lines.
-fn write_record(form: Form, whole: &[u8], out: &mut [u8], at: Bytes) -> Bytes
-    requires { Writable form whole.now out.old at.0 }
-    ensures { Put out.old at.0 (ended form (lines_of (words_of whole.now))) out.new result.0 }
+fn write_record(whole: &[u8], out: &mut [u8], at: Bytes) -> Bytes
+    requires { Writable whole.now out.old at.0 }
+    ensures { Put out.old at.0 (ended (lines_of (words_of whole.now))) out.new result.0 }
 {
     if words::word_at(whole, Words(1)) == record::DATA {
-        return write_data(form, whole, out, at);
+        return write_data(whole, out, at);
     }
-    write_carded(form, whole, out, at)
+    write_carded(whole, out, at)
 }
 
 // The columns that a record of this kind and size takes in its lines: a field has six, a card its words' bytes.
@@ -96,28 +95,22 @@ fn columns_in(kind: u16, size: Words) -> Bytes
     Bytes(columns)
 }
 
-// The bytes of a good record's text: the columns of its lines, and their ends; or its lines, filled.
-fn record_size(form: Form, whole: &[u8]) -> Bytes
+// The bytes of a good record's text: the columns of its lines, and their ends.
+fn record_size(whole: &[u8]) -> Bytes
     requires { BlockRecord (words_of whole.now) }
-    ensures { result.0 ≡ length (ended form (lines_of (words_of whole.now))) }
+    ensures { result.0 ≡ length (ended (lines_of (words_of whole.now))) }
 {
-    let lines = record::line_count(whole);
-    match form {
-        Form::Unblocked => {
-            let kind = words::word_at(whole, Words(1));
-            let columns = columns_in(kind, words::count(whole)).0;
-            let ends = units::ends_of_lines(lines).0;
-            let size = columns + ends;
-            Bytes(size)
-        }
-        Form::Blocked => units::bytes_of_lines(lines),
-    }
+    let ends = units::ends_of_lines(record::line_count(whole)).0;
+    let kind = words::word_at(whole, Words(1));
+    let columns = columns_in(kind, words::count(whole)).0;
+    let size = columns + ends;
+    Bytes(size)
 }
 
 // The bytes of an accepted block's text.
-fn text_size(form: Form, block: &[u8]) -> Bytes
+fn text_size(block: &[u8]) -> Bytes
     requires { Accepted block.now }
-    ensures { result.0 ≡ length (text_of form (records_of block.now)) }
+    ensures { result.0 ≡ length (text_of (records_of block.now)) }
 {
     let mut at = 1;
     let mut bytes = 0;
@@ -127,15 +120,15 @@ fn text_size(form: Form, block: &[u8]) -> Bytes
         if n == 0 {
             return Bytes(bytes);
         }
-        bytes += record_size(form, whole).0;
+        bytes += record_size(whole).0;
         at += n;
     }
 }
 
 // Writes an accepted block's text.
-pub fn write_records(form: Form, block: &[u8], out: &mut [u8]) -> Bytes
-    requires { Accepted block.now × Room out.old 0 (text_of form (records_of block.now)) }
-    ensures { Put out.old 0 (text_of form (records_of block.now)) out.new result.0 }
+pub fn write_records(block: &[u8], out: &mut [u8]) -> Bytes
+    requires { Accepted block.now × Room out.old 0 (text_of (records_of block.now)) }
+    ensures { Put out.old 0 (text_of (records_of block.now)) out.new result.0 }
 {
     let mut at = 1;
     let mut to = Bytes(0);
@@ -145,32 +138,32 @@ pub fn write_records(form: Form, block: &[u8], out: &mut [u8]) -> Bytes
         if n == 0 {
             return to;
         }
-        to = write_record(form, whole, out, to);
+        to = write_record(whole, out, to);
         at += n;
     }
 }
 
 // Writes an accepted block's text, if the lent text has room for it.
-fn write_text(form: Form, block: &[u8], text: &mut [u8]) -> Lined
+fn write_text(block: &[u8], text: &mut [u8]) -> Lined
     requires { Accepted block.now }
-    ensures { leaves (lined_of result) text.new ≡ written 29 text.old (passed (text_of form (records_of block.now))) }
+    ensures { leaves (lined_of result) text.new ≡ written 29 text.old (passed (text_of (records_of block.now))) }
 {
-    let needed = text_size(form, block);
+    let needed = text_size(block);
     let bytes = needed.0;
     if text.len() < bytes {
         return Lined::Short(needed);
     }
-    let end = write_records(form, block, text);
+    let end = write_records(block, text);
     Lined::Text(end)
 }
 
 // Block to lines.
-pub fn to_lines(form: Form, block: &[u8], text: &mut [u8]) -> Lined
-    ensures { WritesLines form block.now text.old result text.new }
+pub fn to_lines(block: &[u8], text: &mut [u8]) -> Lined
+    ensures { WritesLines block.now text.old result text.new }
 {
     match block::judge(block) {
         Judged::Refused(r) => Lined::Refused(r),
-        Judged::Records(_) => write_text(form, block, text),
+        Judged::Records(_) => write_text(block, text),
     }
 }
 

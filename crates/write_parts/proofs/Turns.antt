@@ -1,6 +1,6 @@
 -- The layout of words on lines, a turn of each writer at a time.
 use mathlib.Core.Path.{◌≡◌, refl, sym, ap, ◌∙◌}
-use mathlib.Core.List.{List, [], ◌∷◌, ◌++◌}
+use mathlib.Core.List.{List, [], ◌∷◌, ◌++◌, append_assoc}
 use Prim.Native.Nat.{ℕ, zero, suc, ◌+◌, ◌-◌, ◌*◌, ◌≤◌, ◌<◌, min}
 use native.Mathlib.Nat.{suc-mul, zero-add}
 use native.Mathlib.Numerals.{add-one}
@@ -13,13 +13,11 @@ use Rattle.words.proofs.Lists.{part_slice, all_take, all_drop}
 use Rattle.words.proofs.Laws.{bytes_words, words-slice}
 use Rattle.field.specs.Writing.{field_of}
 use Rattle.field.proofs.Written.{length_field_of}
+use Rattle.units.specs.Units.{Line}
 use Rattle.counts.specs.declared.Counts.{Counts}
 use Rattle.line_plan.specs.Plan.{part, times, tables, plan}
 use Rattle.line_plan.proofs.Plans.{part_turn, fields_in, fields_in-part, fields_in-times}
-use Rattle.line_form.specs.declared.Form.{Form}
-use Rattle.line_form.specs.Form.{with_end, ended}
-use Rattle.line_form.proofs.Ends.{first-line, ended-append}
-use Rattle.write_parts.specs.Laid.{fields_of, laid, card_lines}
+use Rattle.write_parts.specs.Laid.{fields_of, laid, card_lines, ended}
 
 pub length_fields_of : (ws : List ℕ) → length (fields_of ws) ≡ 6 * length ws
 unfolding fields_of
@@ -42,10 +40,60 @@ pub no_fields : (ws : List ℕ) (left : ℕ) → left ≡ 0 → fields_of (take 
 unfolding fields_of
 no_fields ws left e = rw e refl
 
+-- a line, and the lines behind it
+line_turn : (n : ℕ) (ns ws : List ℕ) → ended (laid (n ∷ ns) ws) ≡ (fields_of (take n ws) ++ (10 ∷ [])) ++ ended (laid ns (drop n ws))
+unfolding ended laid
+line_turn n ns ws = sym (append_assoc (fields_of (take n ws)) (10 ∷ []) (ended (laid ns (drop n ws))))
+
+-- a part of n words: its first line
+line_of : (ws : List ℕ) (n : ℕ) → 0 < n → ended (laid (part n) ws) ≡ (fields_of (take (min n 20) ws) ++ (10 ∷ [])) ++ ended (laid (part (n - min n 20)) (drop (min n 20) ws))
+line_of ws n h = ap (λ ns. ended (laid ns ws)) (part_turn n h) ∙ line_turn (min n 20) (part (n - min n 20)) ws
+
+pub part-line : (ws : List ℕ) (place n : ℕ) → 0 < n
+    → ended (laid (part n) (drop place ws)) ≡ (fields_of (take (min n 20) (drop place ws)) ++ (10 ∷ [])) ++ ended (laid (part (n - min n 20)) (drop (place + min n 20) ws))
+part-line ws place n h =
+    line_of (drop place ws) n h
+    ∙ ap (λ l. (fields_of (take (min n 20) (drop place ws)) ++ (10 ∷ [])) ++ ended (laid (part (n - min n 20)) l)) (drop-drop (min n 20) place ws)
+
+pub no_part : (ws : List ℕ) (n : ℕ) → n ≡ 0 → ended (laid (part n) ws) ≡ []
+unfolding ended laid part
+no_part ws n e = rw e refl
+
+ended-append : (ls ms : List Line) → ended (ls ++ ms) ≡ ended ls ++ ended ms
+unfolding ended
+ended-append [] ms = refl
+ended-append (l ∷ ls) ms = ap (λ t. l ++ (10 ∷ t)) (ended-append ls ms) ∙ sym (append_assoc l (10 ∷ ended ls) (ended ms))
+
 laid-append : (ns ms ws : List ℕ) → laid (ns ++ ms) ws ≡ laid ns ws ++ laid ms (drop (fields_in ns) ws)
 unfolding laid fields_in
 laid-append [] ms ws = refl
 laid-append (n ∷ ns) ms ws = ap (λ t. fields_of (take n ws) ∷ t) (laid-append ns ms (drop n ws) ∙ ap (λ l. laid ns (drop n ws) ++ laid ms l) (drop-drop (fields_in ns) n ws))
+
+-- lines of n words in all, and what stands behind them
+behind : (ns ms ws : List ℕ) (place n : ℕ) → fields_in ns ≡ n
+    → ended (laid (ns ++ ms) (drop place ws)) ≡ ended (laid ns (drop place ws)) ++ ended (laid ms (drop (place + n) ws))
+behind ns ms ws place n e =
+    ap ended (laid-append ns ms (drop place ws))
+    ∙ ended-append (laid ns (drop place ws)) (laid ms (drop (fields_in ns) (drop place ws)))
+    ∙ ap (λ l. ended (laid ns (drop place ws)) ++ ended (laid ms l)) (ap (λ k. drop k (drop place ws)) e ∙ drop-drop n place ws)
+
+-- a row, and the rows behind it
+pub row_turn : (ws : List ℕ) (place n left : ℕ) → 0 < left
+    → ended (laid (times left (part n)) (drop place ws)) ≡ ended (laid (part n) (drop place ws)) ++ ended (laid (times (left - 1) (part n)) (drop (place + n) ws))
+unfolding times
+row_turn ws place n left h =
+    let e : left ≡ suc (left - 1) = omega arith in
+    ap (λ k. ended (laid (times k (part n)) (drop place ws))) e ∙ behind (part n) (times (left - 1) (part n)) ws place n (fields_in-part n)
+
+pub no_rows : (ws : List ℕ) (n left : ℕ) → left ≡ 0 → ended (laid (times left (part n)) ws) ≡ []
+unfolding ended laid times
+no_rows ws n left e = rw e refl
+
+-- rows without words take no line
+pub no_width : (ws : List ℕ) (n left : ℕ) → n ≡ 0 → ended (laid (times left (part n)) ws) ≡ []
+unfolding ended laid part times
+no_width ws n zero e = refl
+no_width ws n (suc left) e = let ih = no_width ws n left e in rw e (rw e at ih)
 
 -- the words of the rows that are left
 pub rows_left : (place n left end : ℕ) → 0 < left → place + left * n ≤ end → place + n + (left - 1) * n ≤ end
@@ -55,11 +103,27 @@ rows_left place n left end h k =
     omega (arith, suc-mul (left - 1) n)
 
 -- the first line of a record: its two first fields, and the others
-pub head_turn : (a b n : ℕ) (ws : List ℕ) → 2 ≤ n → fields_of (take n (a ∷ (b ∷ ws))) ≡ field_of a ++ (field_of b ++ fields_of (take (n - 2) ws))
+pub head_turn : (a b n : ℕ) (ws : List ℕ) → 2 ≤ n
+    → fields_of (take n (a ∷ (b ∷ ws))) ++ (10 ∷ []) ≡ field_of a ++ (field_of b ++ (fields_of (take (n - 2) ws) ++ (10 ∷ [])))
 unfolding fields_of
 head_turn a b n ws h =
     let e : n ≡ suc (suc (n - 2)) = omega arith in
-    ap (λ k. fields_of (take k (a ∷ (b ∷ ws)))) e
+    ap (λ k. fields_of (take k (a ∷ (b ∷ ws))) ++ (10 ∷ [])) e
+    ∙ append_assoc (field_of a) (field_of b ++ fields_of (take (n - 2) ws)) (10 ∷ [])
+    ∙ ap (λ t. field_of a ++ t) (append_assoc (field_of b) (fields_of (take (n - 2) ws)) (10 ∷ []))
+
+-- the next card, and the others
+pub card_turn : (ws : List ℕ) (place left : ℕ) → 0 < left
+    → ended (card_lines left (drop place ws)) ≡ bytes_of (take 40 (drop place ws)) ++ (10 ∷ ended (card_lines (left - 1) (drop (place + 40) ws)))
+unfolding ended card_lines
+card_turn ws place left h =
+    let e : left ≡ suc (left - 1) = omega arith in
+    ap (λ k. ended (card_lines k (drop place ws))) e
+    ∙ ap (λ l. bytes_of (take 40 (drop place ws)) ++ (10 ∷ ended (card_lines (left - 1) l))) (drop-drop 40 place ws)
+
+pub no_cards : (ws : List ℕ) (left : ℕ) → left ≡ 0 → ended (card_lines left ws) ≡ []
+unfolding ended card_lines
+no_cards ws left e = rw e refl
 
 -- a card's bytes, as words and as they stand in the record
 pub card_bytes : (b : List ℕ) (place : ℕ) → Below 256 b → (place + 40) * 2 ≤ length b → slice (place * 2) ((place + 40) * 2) b ≡ bytes_of (take 40 (drop place (words_of b)))
@@ -81,84 +145,24 @@ shown_drop a b n ws h =
     let f : 2 + (n - 2) ≡ n = omega arith in
     ap (λ k. drop k (a ∷ (b ∷ drop 2 ws))) e ∙ drop-drop (n - 2) 2 ws ∙ ap (λ k. drop k ws) f
 
-module _ (f : Form) where
-  -- a line, and the lines behind it
-  line_turn : (n : ℕ) (ns ws : List ℕ) → ended f (laid (n ∷ ns) ws) ≡ with_end f (fields_of (take n ws)) ++ ended f (laid ns (drop n ws))
-  unfolding laid
-  line_turn n ns ws = first-line f (fields_of (take n ws)) (laid ns (drop n ws))
+-- the first line of a Data record's prologue, and the others
+pub prologue_text : (lines : ℕ) (ws : List ℕ) (lprol : ℕ) → 16 ≤ lprol → let shown = lines ∷ (1101 ∷ drop 2 ws) in
+    ended (laid (part lprol) shown) ≡ (fields_of (take (min lprol 20) shown) ++ (10 ∷ [])) ++ ended (laid (part (lprol - min lprol 20)) (drop (min lprol 20) ws))
+prologue_text lines ws lprol least = let shown = lines ∷ (1101 ∷ drop 2 ws) in
+    line_of shown lprol (omega arith)
+    ∙ ap (λ l. (fields_of (take (min lprol 20) shown) ++ (10 ∷ [])) ++ ended (laid (part (lprol - min lprol 20)) l)) (shown_drop lines 1101 (min lprol 20) ws (omega arith))
 
-  -- a part of n words: its first line
-  line_of : (ws : List ℕ) (n : ℕ) → 0 < n → ended f (laid (part n) ws) ≡ with_end f (fields_of (take (min n 20) ws)) ++ ended f (laid (part (n - min n 20)) (drop (min n 20) ws))
-  line_of ws n h = ap (λ ns. ended f (laid ns ws)) (part_turn n h) ∙ line_turn (min n 20) (part (n - min n 20)) ws
+module _ (ws : List ℕ) (c : Counts) where
+  -- its tables: the 1-D codes and values, the 2-D codes and rows
+  pub tables-text : ended (laid (tables c) (drop c.lprol ws))
+      ≡ ended (laid (times 2 (part c.jpar)) (drop c.lprol ws)) ++ ended (laid (times (c.nrow + 1) (part c.mpar)) (drop (c.lprol + 2 * c.jpar) ws))
+  tables-text = behind (times 2 (part c.jpar)) (times (c.nrow + 1) (part c.mpar)) ws c.lprol (2 * c.jpar) (fields_in-times 2 c.jpar)
 
-  pub part-line : (ws : List ℕ) (place n : ℕ) → 0 < n
-      → ended f (laid (part n) (drop place ws)) ≡ with_end f (fields_of (take (min n 20) (drop place ws))) ++ ended f (laid (part (n - min n 20)) (drop (place + min n 20) ws))
-  part-line ws place n h =
-      line_of (drop place ws) n h
-      ∙ ap (λ l. with_end f (fields_of (take (min n 20) (drop place ws))) ++ ended f (laid (part (n - min n 20)) l)) (drop-drop (min n 20) place ws)
-
-  pub no_part : (ws : List ℕ) (n : ℕ) → n ≡ 0 → ended f (laid (part n) ws) ≡ []
-  unfolding ended laid part
-  no_part ws n e = rw e refl
-
-  -- lines of n words in all, and what stands behind them
-  behind : (ns ms ws : List ℕ) (place n : ℕ) → fields_in ns ≡ n
-      → ended f (laid (ns ++ ms) (drop place ws)) ≡ ended f (laid ns (drop place ws)) ++ ended f (laid ms (drop (place + n) ws))
-  behind ns ms ws place n e =
-      ap (ended f) (laid-append ns ms (drop place ws))
-      ∙ ended-append f (laid ns (drop place ws)) (laid ms (drop (fields_in ns) (drop place ws)))
-      ∙ ap (λ l. ended f (laid ns (drop place ws)) ++ ended f (laid ms l)) (ap (λ k. drop k (drop place ws)) e ∙ drop-drop n place ws)
-
-  -- a row, and the rows behind it
-  pub row_turn : (ws : List ℕ) (place n left : ℕ) → 0 < left
-      → ended f (laid (times left (part n)) (drop place ws)) ≡ ended f (laid (part n) (drop place ws)) ++ ended f (laid (times (left - 1) (part n)) (drop (place + n) ws))
-  unfolding times
-  row_turn ws place n left h =
-      let e : left ≡ suc (left - 1) = omega arith in
-      ap (λ k. ended f (laid (times k (part n)) (drop place ws))) e ∙ behind (part n) (times (left - 1) (part n)) ws place n (fields_in-part n)
-
-  pub no_rows : (ws : List ℕ) (n left : ℕ) → left ≡ 0 → ended f (laid (times left (part n)) ws) ≡ []
-  unfolding ended laid times
-  no_rows ws n left e = rw e refl
-
-  -- rows without words take no line
-  pub no_width : (ws : List ℕ) (n left : ℕ) → n ≡ 0 → ended f (laid (times left (part n)) ws) ≡ []
-  unfolding ended laid part times
-  no_width ws n zero e = refl
-  no_width ws n (suc left) e = let ih = no_width ws n left e in rw e (rw e at ih)
-
-  -- the next card, and the others
-  pub card_turn : (ws : List ℕ) (place left : ℕ) → 0 < left
-      → ended f (card_lines left (drop place ws)) ≡ with_end f (bytes_of (take 40 (drop place ws))) ++ ended f (card_lines (left - 1) (drop (place + 40) ws))
-  unfolding card_lines
-  card_turn ws place left h =
-      let e : left ≡ suc (left - 1) = omega arith in
-      ap (λ k. ended f (card_lines k (drop place ws))) e
-      ∙ first-line f (bytes_of (take 40 (drop place ws))) (card_lines (left - 1) (drop 40 (drop place ws)))
-      ∙ ap (λ l. with_end f (bytes_of (take 40 (drop place ws))) ++ ended f (card_lines (left - 1) l)) (drop-drop 40 place ws)
-
-  pub no_cards : (ws : List ℕ) (left : ℕ) → left ≡ 0 → ended f (card_lines left ws) ≡ []
-  unfolding ended card_lines
-  no_cards ws left e = rw e refl
-
-  -- the first line of a Data record's prologue, and the others
-  pub prologue_text : (lines : ℕ) (ws : List ℕ) (lprol : ℕ) → 16 ≤ lprol → let shown = lines ∷ (1101 ∷ drop 2 ws) in
-      ended f (laid (part lprol) shown) ≡ with_end f (fields_of (take (min lprol 20) shown)) ++ ended f (laid (part (lprol - min lprol 20)) (drop (min lprol 20) ws))
-  prologue_text lines ws lprol least = let shown = lines ∷ (1101 ∷ drop 2 ws) in
-      line_of shown lprol (omega arith)
-      ∙ ap (λ l. with_end f (fields_of (take (min lprol 20) shown)) ++ ended f (laid (part (lprol - min lprol 20)) l)) (shown_drop lines 1101 (min lprol 20) ws (omega arith))
-
-  module _ (ws : List ℕ) (c : Counts) where
-    -- its tables: the 1-D codes and values, the 2-D codes and rows
-    pub tables-text : ended f (laid (tables c) (drop c.lprol ws))
-        ≡ ended f (laid (times 2 (part c.jpar)) (drop c.lprol ws)) ++ ended f (laid (times (c.nrow + 1) (part c.mpar)) (drop (c.lprol + 2 * c.jpar) ws))
-    tables-text = behind (times 2 (part c.jpar)) (times (c.nrow + 1) (part c.mpar)) ws c.lprol (2 * c.jpar) (fields_in-times 2 c.jpar)
-
-    -- its text: the prologue, then the tables
-    pub plan-text : (lines : ℕ) → 16 ≤ c.lprol → let shown = lines ∷ (1101 ∷ drop 2 ws) in
-        ended f (laid (plan c) shown) ≡ ended f (laid (part c.lprol) shown) ++ ended f (laid (tables c) (drop c.lprol ws))
-    unfolding plan
-    plan-text lines least = let shown = lines ∷ (1101 ∷ drop 2 ws) in
-        behind (part c.lprol) (tables c) shown 0 c.lprol (fields_in-part c.lprol)
-        ∙ ap (λ l. ended f (laid (part c.lprol) shown) ++ ended f (laid (tables c) l))
-        (ap (λ k. drop k shown) (zero-add c.lprol) ∙ shown_drop lines 1101 c.lprol ws (omega arith))
+  -- its text: the prologue, then the tables
+  pub plan-text : (lines : ℕ) → 16 ≤ c.lprol → let shown = lines ∷ (1101 ∷ drop 2 ws) in
+      ended (laid (plan c) shown) ≡ ended (laid (part c.lprol) shown) ++ ended (laid (tables c) (drop c.lprol ws))
+  unfolding plan
+  plan-text lines least = let shown = lines ∷ (1101 ∷ drop 2 ws) in
+      behind (part c.lprol) (tables c) shown 0 c.lprol (fields_in-part c.lprol)
+      ∙ ap (λ l. ended (laid (part c.lprol) shown) ++ ended (laid (tables c) l))
+      (ap (λ k. drop k shown) (zero-add c.lprol) ∙ shown_drop lines 1101 c.lprol ws (omega arith))

@@ -18,3 +18,8 @@ laid (n ∷ ns) ws = fields_of (take n ws) ∷ laid ns (drop n ws)
 unfoldable pub card_lines : ℕ → List ℕ → List Line
 card_lines zero ws = []
 card_lines (suc n) ws = bytes_of (take 40 ws) ∷ card_lines n (drop 40 ws)
+
+-- "Every line ends with LF and has no filling"
+unfoldable pub ended : List Line → List ℕ
+ended [] = []
+ended (l ∷ ls) = l ++ (10 ∷ ended ls)

@@ -7,7 +7,6 @@ use Rattle.words.proofs.Laws.{all_below}
 use Rattle.block.specs.Judging.{Accepted}
 use Rattle.block.specs.Records.{records_of}
 use Rattle.report.specs.Refusal.{refusal_line}
-use Rattle.line_form.specs.declared.Form.TheVariants.{Unblocked}
 use Rattle.write_lines.specs.Text.{text_of}
 use Rattle.printed.specs.Printed.{lines_printed}
 use Rattle.printed.proofs.Outcome.{Prints, accepted_prints, refused_prints, lines_bound}
@@ -19,7 +18,7 @@ room : (c : tie.After-judge) → let a = c.before.before.args in 55971 ≤ lengt
 room c sized = let b = c.before.before.args.block.now in
     omega (arith, lines_bound b (all_below 256 b (λ i. omega (arith, c.before.shared-slice-known.given i))))
 
-when_accepted : (c : tie.After-write-records-arg) → let a = c.before.before.before.before.before.args in let b = a.block.now in Accepted b × Prints a.out.now (lines_printed b) (text_of Unblocked (records_of b))
+when_accepted : (c : tie.After-write-records-arg) → let a = c.before.before.before.before.before.args in let b = a.block.now in Accepted b × Prints a.out.now (lines_printed b) (text_of (records_of b))
 when_accepted c = let j = c.before.before.before in
     accepted_prints _ _ (room j (omega (arith, c.write-records-arg.given.0.1))) j.judge.ensures c.before.enum_told.given.1
 

@@ -1,43 +1,55 @@
-use mathlib.Core.Path.{◌≡◌, refl, sym, ap, ◌∙◌}
-use Prim.Native.Nat.{◌≤◌, ◌<◌}
+use mathlib.Core.Path.{ap, sym}
+use Prim.Native.Nat.{◌+◌, ◌-◌}
 use native.Mathlib.Omega.{arith}
 use borrow.Author.Rules.{rules}
-use lib.ListN.{length, drop, take}
-use lib.Seq.{length-take-le, take-length}
-use Rattle.words.specs.Scans.{plain_in}
-use Rattle.words.proofs.Lists.{part_slice}
-use Rattle.read_cut.specs.Lines.{latest_end}
-use Rattle.read_cut.proofs.Filled.{latest_in, cut-filled}
+use lib.ListN.{length, drop_of_length-le}
+use Rattle.read_cut.specs.Lines.{end_length}
+use Rattle.read_cut.proofs.FirstLine.{Sought, sought_plain, sought_on, cut_here, lf_at}
 use Rattle.read_cut.proofs.next_line.Statement.{statement}
 use Rattle.read_cut.proofs.next_line.Tie as tie
 
--- the line ends behind its beginning, and in the text
-inside : (c : tie.After-latest-end) → let a = c.before.before.args in (a.at.0 < c.latest-end.result) × (c.latest-end.result ≤ length a.text.now)
-inside c = let s = c.before.before in rw c.latest-end.ensures (latest_in s.args.form (length s.args.text.now) s.args.at.0 s.requires)
+abbrev invariant-loop : tie.invariant-loop
+invariant-loop text first from plain i₀ i = Sought text first i
 
--- so many bytes are looked at
-looked-at : (c : tie.After-plain-end-arg) → c.before.latest-end.result ≡ length (take c.before.latest-end.result c.before.before.before.args.text.now)
-looked-at c = sym (length-take-le c.before.latest-end.result c.before.before.before.args.text.now (inside c.before).1)
+abbrev decreases-loop : tie.decreases-loop
+decreases-loop text first from plain i₀ i = length text - i
 
-plain-end-requires : tie.Need-plain-end-requires
-plain-end-requires c κs = omega (arith, looked-at c, (inside c.before).0)
+-- back from the loop to the start
+abbrev start-before-loop : tie.At-loop invariant-loop decreases-loop → tie.Start invariant-loop decreases-loop
+start-before-loop l = l.before.before.before.before.before
 
--- an unblocked line may end with the text
-ended-line-requires : tie.Need-ended-line-requires
-ended-line-requires c κs = let p = c.before.before in let l = p.before.before in let a = l.before.before.args in let t = a.text.now in
-    let all : l.latest-end.result ≡ length t = l.latest-end.ensures ∙ ap (λ f. latest_end f (length t) a.at.0) c.enum_told.given.1 in
-    (l.before.before.requires, omega (arith, p.plain-end.ensures, ap (λ n. plain_in (drop a.at.0 (take n t))) all, ap (λ s. plain_in (drop a.at.0 s)) (take-length t)))
+-- behind the plain bytes the end is still to be found
+sought : (c : tie.After-plain-end invariant-loop decreases-loop) → let s = c.before.before in Sought s.args.text.now s.args.at.0 c.plain-end.result
+sought c = let s = c.before.before in rw c.plain-end.ensures (sought_plain s.args.text.now s.args.at.0 (omega (arith, s.requires)))
 
-returns : tie.Need-returns
-returns c = rw c.before.enum_told.given.1 c.ended-line.ensures
+returns : tie.Need-returns invariant-loop decreases-loop
+returns c = let p = c.before.before in let a = p.before.before.args in let one = lf_at a.text.now p.plain-end.result c.before.is-lf.ensures.0 c.if1.true in
+    cut_here a.text.now a.at.0 _ (sought p) (omega (arith, p.plain-end.ensures)) (ap (λ k. p.plain-end.result + k) (sym one)) (λ _. omega (arith, one)) (omega (arith, (sought p).behind)) (omega (arith, c.before.is-lf.ensures.1 c.if1.true))
 
-returns-2 : tie.Need-returns-2
-returns-2 c = let p = c.before.before in let l = p.before.before in let a = l.before.before.args in let t = a.text.now in
-    rw c.enum-told2.given.1
-    (cut-filled t a.at.0 l.latest-end.result l.before.before.requires (l.latest-end.ensures ∙ ap (λ f. latest_end f (length t) a.at.0) c.enum-told2.given.1) _ refl refl
-    (omega (arith, p.plain-end.ensures, ap plain_in (part_slice a.at.0 l.latest-end.result t (omega (arith, (inside l).0))))))
+returns-2 : tie.Need-returns-2 invariant-loop decreases-loop
+returns-2 c = let l = c.before.before.before in let a = (start-before-loop l).args in
+    cut_here a.text.now a.at.0 _ l.loop.invariant (omega arith) (ap (λ k. l.loop.i + k) c.before.end-length.ensures.0) (λ _. omega arith) (omega arith) (omega arith)
+
+loop-again : tie.Need-loop-preserved invariant-loop decreases-loop
+loop-again c = let l = c.before.before.before in let a = (start-before-loop l).args in sought_on a.text.now a.at.0 l.loop.i l.loop.invariant (omega arith) (omega arith)
+
+returns-3 : tie.Need-returns-3 invariant-loop decreases-loop
+unfolding end_length
+returns-3 c = let l = c.before in let a = (start-before-loop l).args in
+    cut_here a.text.now a.at.0 _ l.loop.invariant (omega arith) (omega (arith, ap end_length (drop_of_length-le a.text.now c.loop-test.false))) (λ h. absurd (omega arith)) (omega arith) (omega arith)
 
 pub next-line-spec : {M : Type 1} → statement M
 next-line-spec =
     tie.close
-    (tie.spec (λ c κs. search rules) looked-at plain-end-requires (λ c. search rules) ended-line-requires (λ c. search rules) (λ c. search rules) returns returns-2)
+    (tie.spec
+    invariant-loop
+    decreases-loop
+    (λ c κs. search rules) (λ c. search rules) (λ c κs. search rules)
+    (λ c. omega (arith, c.before.is-lf.ensures.1 c.if1.true))
+    returns
+    (λ c. sought c.before.before)
+    (λ c κs. search rules) (λ c. search rules)
+    returns-2
+    (λ c. search rules) (λ c. search rules)
+    loop-again
+    returns-3)

@@ -2,14 +2,12 @@ use Rattle.write_lines.proofs.Sizes.{Cards, is_cards, cards_are}
 use Rattle.record.specs.Lines.{line_count}
 use Rattle.line_plan.specs.Plan.{kind_shown}
 use Rattle.write_lines.specs.Lines.{lines_of}
-use Rattle.line_form.specs.Form.{with_end, ended}
-use Rattle.line_form.proofs.Ends.{first-line}
-use Rattle.write_parts.specs.Laid.{fields_of, card_lines}
+use Rattle.write_parts.specs.Laid.{fields_of, card_lines, ended}
 use Rattle.words.proofs.Writing.{first_fits, second_fits, both-put}
 use Rattle.words.specs.Words.{words_of}
 use lib.ListN.{take, drop}
 use native.Mathlib.Omega.{arith}
-use mathlib.Core.List.{List, ◌∷◌, ◌++◌}
+use mathlib.Core.List.{List, [], ◌∷◌, ◌++◌}
 use mathlib.Core.Path.{◌≡◌, ap, ◌∙◌}
 use Prim.Native.Nat.{ℕ, ◌-◌}
 use borrow.Author.Rules.{rules}
@@ -27,20 +25,18 @@ abbrev start : tie.After-struct-known → tie.Start
 start k = k.before.before.before.before.before.before.before
 
 abbrev head : tie.After-struct-known → List ℕ
-head k = with_end (start k).args.form (fields_of (take 20 (k.before.before.before.before.count-shown.result ∷ (k.before.before.kind-shown.result ∷ drop 2 (ws (start k))))))
+head k = fields_of (take 20 (k.before.before.before.before.count-shown.result ∷ (k.before.before.kind-shown.result ∷ drop 2 (ws (start k))))) ++ (10 ∷ [])
 
 abbrev behind : tie.After-struct-known → List ℕ
-behind k = ended (start k).args.form (card_lines (k.before.lines-said.result.0 - 1) (drop 40 (ws (start k))))
+behind k = ended (card_lines (k.before.lines-said.result.0 - 1) (drop 40 (ws (start k))))
 
 lines_are : (k : tie.After-struct-known) → k.before.lines-said.result.0 ≡ line_count (ws (start k))
 lines_are k = k.before.lines-said.ensures.0 ∙ k.before.before.before.before.count-shown.ensures
 
-pieces : (k : tie.After-struct-known) → ended (start k).args.form (lines_of (ws (start k))) ≡ head k ++ behind k
+pieces : (k : tie.After-struct-known) → ended (lines_of (ws (start k))) ≡ head k ++ behind k
 pieces k =
-    let f = (start k).args.form in
-    ap (ended f) (cards_are (ws (start k)) _ _ _ (start k).requires.1 k.before.before.before.before.count-shown.ensures
-    (k.before.before.kind-shown.ensures ∙ ap kind_shown k.before.before.before.word_at.ensures) (ap (λ n. n - 1) (lines_are k)))
-    ∙ first-line f _ _
+    cards_are (ws (start k)) _ _ _ (start k).requires.1 k.before.before.before.before.count-shown.ensures
+    (k.before.before.kind-shown.ensures ∙ ap kind_shown k.before.before.before.word_at.ensures) (ap (λ n. n - 1) (lines_are k))
 
 sub-cards : tie.Need-overflow-sub-cards
 sub-cards c = let k = cards (start c) in omega (arith, lines_are c, k.count, k.least)

@@ -7,17 +7,17 @@ use Rattle.words.proofs.Laws.{all_below}
 use Rattle.words.proofs.Writing.{Going, start, fits, on, done}
 use Rattle.block.specs.Records.{records_of}
 use Rattle.block_steps.proofs.Loops.{Loop, Turn, loop_start, turn, loop_on, loop_end}
-use Rattle.line_form.specs.Form.{ended}
+use Rattle.write_parts.specs.Laid.{ended}
 use Rattle.write_lines.specs.Lines.{lines_of}
 use Rattle.write_lines.specs.Text.{text_of}
 use Rattle.write_lines.proofs.write_records.Statement.{statement}
 use Rattle.write_lines.proofs.write_records.Tie as tie
 
 abbrev invariant-loop : tie.invariant-loop
-invariant-loop form block out₀ at₀ to₀ out at to = Loop block at (λ rs. Going out₀ 0 (text_of form (records_of block)) out to.0 (text_of form rs))
+invariant-loop block out₀ at₀ to₀ out at to = Loop block at (λ rs. Going out₀ 0 (text_of (records_of block)) out to.0 (text_of rs))
 
 abbrev decreases-loop : tie.decreases-loop
-decreases-loop form block out₀ at₀ to₀ out at to = length (words_of block) - at
+decreases-loop block out₀ at₀ to₀ out at to = length (words_of block) - at
 
 -- the first record that is left
 found : (c : tie.Else1 invariant-loop decreases-loop) → Turn c.before.before.before.loop.invariant c.before.before.record-at.result.now c.before.count.result.0
@@ -33,8 +33,8 @@ returns c = done (loop_end c.before.before.before.loop.invariant c.before.before
 
 write-record-requires : tie.Need-write-record-requires invariant-loop decreases-loop
 unfolding text_of
-write-record-requires c κs = let t = found c.before in let s = c.before.before.before.before.before.before.before in let f = s.args.form in
-    record { good = t.good; room = fits t.holds (ended f (lines_of (words_of c.before.before.before.record-at.result.now))) (text_of f t.others) refl s.requires.1 }
+write-record-requires c κs = let t = found c.before in
+    record { good = t.good; room = fits t.holds (ended (lines_of (words_of c.before.before.before.record-at.result.now))) (text_of t.others) refl c.before.before.before.before.before.before.before.requires.1 }
 
 loop-again : tie.Need-loop-preserved invariant-loop decreases-loop
 unfolding text_of

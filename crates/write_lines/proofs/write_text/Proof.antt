@@ -11,15 +11,13 @@ abbrev start-before-else1 : tie.Else1 → tie.Start
 start-before-else1 c = c.before.before.before.before
 
 returns : tie.Need-returns
-returns c = let a = c.before.before.before.before.args in
-    too_short 29 a.text.now (text_of a.form (records_of a.block.now)) c.before.text_size_lem.result.0 c.before.text_size_lem.ensures (omega arith)
+returns c = too_short 29 c.before.before.before.before.args.text.now (text_of (records_of c.before.before.before.before.args.block.now)) c.before.text_size_lem.result.0 c.before.text_size_lem.ensures c.if1.true
 
 write-records-requires : tie.Need-write-records-requires
 write-records-requires c κs = ((start-before-else1 c.before).requires, omega (arith, c.before.before.text_size_lem.ensures))
 
 returns-2 : tie.Need-returns-2
-returns-2 c = let e = c.before.before.before.before in let a = (start-before-else1 e).args in
-    all-written 29 a.text.now (text_of a.form (records_of a.block.now)) (omega (arith, e.before.text_size_lem.ensures)) c.before.before.write-records.ensures
+returns-2 c = all-written 29 (start-before-else1 c.before.before.before.before).args.text.now (text_of (records_of (start-before-else1 c.before.before.before.before).args.block.now)) (omega (arith, c.before.before.before.before.before.text_size_lem.ensures)) c.before.before.write-records.ensures
 
 pub write-text-spec : {M : Type 1} → statement M
 write-text-spec =

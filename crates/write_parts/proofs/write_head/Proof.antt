@@ -1,9 +1,7 @@
 use Rattle.write_parts.proofs.Turns.{head_turn, field_put}
-use Rattle.line_form.proofs.Ends.{line_fits, end_fits, line-put}
 use Rattle.write_parts.specs.Laid.{fields_of}
 use Rattle.field.proofs.Written.{length_field_of}
 use Rattle.field.specs.Writing.{field_of}
-use Rattle.words.specs.Writing.{Room, Put}
 use Rattle.words.proofs.Writing.{Going, start, fits, on, done}
 use Rattle.words.specs.Words.{words_of}
 use lib.ListN.{take, drop}
@@ -22,23 +20,14 @@ start-before-write-field c = c.before.before.before.before.before
 abbrev start-before-write-field2 : tie.After-write-field2 → tie.Start
 start-before-write-field2 c = start-before-write-field c.before.before.before.before
 
-abbrev start-before-write-fields : tie.After-write-fields → tie.Start
-start-before-write-fields c = start-before-write-field2 c.before.before.before.before
-
--- the whole line, and the words behind the first two
-abbrev line : tie.Start → List ℕ
-line s = let a = s.args in fields_of (take a.fields.0 (a.lines ∷ (a.kind ∷ drop 2 (words_of a.whole.now))))
-
+-- the words behind the first two, and the whole line
 abbrev words-behind : tie.Start → List ℕ
-words-behind s = fields_of (take (s.args.fields.0 - 2) (drop 2 (words_of s.args.whole.now)))
+words-behind s = fields_of (take (s.args.fields.0 - 2) (drop 2 (words_of s.args.whole.now))) ++ (10 ∷ [])
 
 abbrev Line-left : (s : tie.Start) → List ℕ → ℕ → List ℕ → Type 0
-Line-left s out to left = Going s.args.out.now s.args.at.0 (line s) out to left
+Line-left s out to left = let a = s.args in Going a.out.now a.at.0 (fields_of (take a.fields.0 (a.lines ∷ (a.kind ∷ drop 2 (words_of a.whole.now)))) ++ (10 ∷ [])) out to left
 
-room : (s : tie.Start) → Room s.args.out.now s.args.at.0 (line s)
-room s = line_fits s.args.form (line s) s.args.out.now _ s.requires.2
-
--- its three pieces are left at the start, then two, then one, then none
+-- its three pieces are left at the start, then two, then one
 left-1 : (s : tie.Start) → let a = s.args in Line-left s a.out.now a.at.0 (field_of a.lines ++ (field_of a.kind ++ words-behind s))
 left-1 s = let a = s.args in rw (← head_turn a.lines a.kind a.fields.0 (drop 2 (words_of a.whole.now)) s.requires.0) start
 
@@ -48,28 +37,17 @@ left-2 c = on (left-1 (start-before-write-field c)) _ _ refl (field_put _ _ _ c.
 left-3 : (c : tie.After-write-field2) → let s = start-before-write-field2 c in Line-left s c.write-field2.new.0 (s.args.at.0 + 6 + 6) (words-behind s)
 left-3 c = on (left-2 c.before.before.before.before) _ _ refl (field_put _ _ _ c.write-field2.ensures)
 
-all-put : (c : tie.After-write-fields) → let s = start-before-write-fields c in Put s.args.out.now s.args.at.0 (line s) c.write-fields.new.1.1.1.0 c.write-fields.result.0
-all-put c = let f = c.before.before.before.before in let l = words-behind (start-before-write-fields c) in
-    done (on (left-3 f) l [] (sym (append-nil l)) c.write-fields.ensures) refl
-
 write-field-requires : tie.Need-write-field-requires
-write-field-requires c κs = let s = c.before.before.before.before in omega (arith, fits (left-1 s) (field_of s.args.lines) _ refl (room s), length_field_of s.args.lines)
+write-field-requires c κs = let s = c.before.before.before.before in omega (arith, fits (left-1 s) (field_of s.args.lines) _ refl s.requires.2, length_field_of s.args.lines)
 
 write-field-requires-2 : tie.Need-write-field-requires-2
-write-field-requires-2 c κs = let f = c.before.before.before in let s = start-before-write-field f in omega (arith, fits (left-2 f) (field_of s.args.kind) _ refl (room s), length_field_of s.args.kind)
+write-field-requires-2 c κs = let f = c.before.before.before in let s = start-before-write-field f in omega (arith, fits (left-2 f) (field_of s.args.kind) _ refl s.pre.2, length_field_of s.args.kind)
 
-write-fields-requires : tie.Need-write-fields-requires
-write-fields-requires c κs = let f = c.before.before.before in (omega arith, omega (arith, (left-3 f).total, (left-3 f).kept, room (start-before-write-field2 f)))
-
-sub-size : tie.Need-overflow-sub-size
-sub-size c = omega (arith, (all-put c.before.before).ends)
-
-end-line-requires : tie.Need-end-line-requires
-end-line-requires c κs = let w = c.before.before.before in let s = start-before-write-fields w in end_fits s.args.form (line s) _ _ s.pre.2 (all-put w)
+write-line-requires : tie.Need-write-line-requires
+write-line-requires c κs = let f = c.before.before.before in (omega arith, omega (arith, (left-3 f).total, (left-3 f).kept, (start-before-write-field2 f).requires.2))
 
 returns : tie.Need-returns
-returns c = let e = c.before.before in let w = e.before.before.before.before in let s = start-before-write-fields w in
-    line-put s.args.form (line s) _ _ s.pre.2 (all-put w) e.end_line.ensures
+returns c = let f = c.before.before.before.before.before.before in let l = words-behind (start-before-write-field2 f) in done (on (left-3 f) l [] (sym (append-nil l)) c.before.before.write-line.ensures) refl
 
 pub write-head-spec : {M : Type 1} → statement M
 write-head-spec =
@@ -78,8 +56,6 @@ write-head-spec =
     (λ c. search rules) (λ c. search rules) (λ c. search rules)
     write-field-requires
     write-field-requires-2
-    write-fields-requires
-    sub-size
-    end-line-requires
+    write-line-requires
     (λ c. search rules)
     returns)

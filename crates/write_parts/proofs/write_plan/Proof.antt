@@ -1,6 +1,5 @@
 use Rattle.write_parts.proofs.Turns.{plan-text}
-use Rattle.write_parts.specs.Laid.{laid}
-use Rattle.line_form.specs.Form.{ended}
+use Rattle.write_parts.specs.Laid.{laid, ended}
 use Rattle.line_plan.specs.Plan.{part, tables, plan}
 use Rattle.words.proofs.Writing.{first_fits, second_fits, both-put}
 use Rattle.words.specs.Words.{words_of}
@@ -15,13 +14,13 @@ use Rattle.write_parts.proofs.write_plan.Tie as tie
 
 -- the prologue, and the tables
 abbrev prologue : tie.Start → List ℕ
-prologue s = let a = s.args in ended a.form (laid (part a.c.lprol) (a.lines ∷ (1101 ∷ drop 2 (words_of a.whole.now))))
+prologue s = let a = s.args in ended (laid (part a.c.lprol) (a.lines ∷ (1101 ∷ drop 2 (words_of a.whole.now))))
 
 abbrev behind : tie.Start → List ℕ
-behind s = let a = s.args in ended a.form (laid (tables a.c) (drop a.c.lprol (words_of a.whole.now)))
+behind s = let a = s.args in ended (laid (tables a.c) (drop a.c.lprol (words_of a.whole.now)))
 
-pieces : (s : tie.Start) → let a = s.args in ended a.form (laid (plan a.c) (a.lines ∷ (1101 ∷ drop 2 (words_of a.whole.now)))) ≡ prologue s ++ behind s
-pieces s = plan-text s.args.form (words_of s.args.whole.now) s.args.c s.args.lines s.requires.0
+pieces : (s : tie.Start) → let a = s.args in ended (laid (plan a.c) (a.lines ∷ (1101 ∷ drop 2 (words_of a.whole.now)))) ≡ prologue s ++ behind s
+pieces s = plan-text (words_of s.args.whole.now) s.args.c s.args.lines s.requires.0
 
 write-prologue-requires : tie.Need-write-prologue-requires
 write-prologue-requires c κs = let s = c.before.before.before.before in

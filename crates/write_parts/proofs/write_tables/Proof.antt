@@ -1,7 +1,6 @@
 use Rattle.write_parts.proofs.Turns.{tables-text}
 use native.Mathlib.Nat.{mul_comm}
-use Rattle.write_parts.specs.Laid.{laid}
-use Rattle.line_form.specs.Form.{ended}
+use Rattle.write_parts.specs.Laid.{laid, ended}
 use Rattle.line_plan.specs.Plan.{part, times, tables}
 use Rattle.words.proofs.Writing.{first_fits, second_fits, both-put}
 use Rattle.words.specs.Words.{words_of}
@@ -16,13 +15,13 @@ use Rattle.write_parts.proofs.write_tables.Tie as tie
 
 -- the 1-D parts, and the 2-D rows
 abbrev singles : tie.Start → List ℕ
-singles s = let a = s.args in ended a.form (laid (times 2 (part a.c.jpar)) (drop a.c.lprol (words_of a.whole.now)))
+singles s = let a = s.args in ended (laid (times 2 (part a.c.jpar)) (drop a.c.lprol (words_of a.whole.now)))
 
 abbrev rows : tie.Start → List ℕ
-rows s = let a = s.args in ended a.form (laid (times (a.c.nrow + 1) (part a.c.mpar)) (drop (a.c.lprol + 2 * a.c.jpar) (words_of a.whole.now)))
+rows s = let a = s.args in ended (laid (times (a.c.nrow + 1) (part a.c.mpar)) (drop (a.c.lprol + 2 * a.c.jpar) (words_of a.whole.now)))
 
-pieces : (s : tie.Start) → let a = s.args in ended a.form (laid (tables a.c) (drop a.c.lprol (words_of a.whole.now))) ≡ singles s ++ rows s
-pieces s = tables-text s.args.form (words_of s.args.whole.now) s.args.c
+pieces : (s : tie.Start) → let a = s.args in ended (laid (tables a.c) (drop a.c.lprol (words_of a.whole.now))) ≡ singles s ++ rows s
+pieces s = tables-text (words_of s.args.whole.now) s.args.c
 
 write-rows-requires : tie.Need-write-rows-requires
 write-rows-requires c κs = let s = c.before.before.before.before.before.before.before in

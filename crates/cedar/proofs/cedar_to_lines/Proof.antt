@@ -3,8 +3,8 @@ use Rattle.units.proofs.Packing.{fitted_is}
 use Rattle.write_lines.specs.Cases.{lined_of}
 use Rattle.cedar.specs.Calls.{converted}
 use borrow.Author.Rules.{rules}
-use Rattle.cedar.proofs.write_lines.Statement.{statement}
-use Rattle.cedar.proofs.write_lines.Tie as tie
+use Rattle.cedar.proofs.cedar_to_lines.Statement.{statement}
+use Rattle.cedar.proofs.cedar_to_lines.Tie as tie
 
 -- the numbers are the answer's, since it packs
 told : (c : tie.After-numbers) → c.numbers.result ≡ lined_of c.before.before.before.to-lines.result
@@ -13,6 +13,6 @@ told c = let p = c.before.before.before.to-lines.ensures.packs in c.numbers.ensu
 returns : tie.Need-returns
 returns c = rw (c.pack.ensures, told c.before) (ap converted c.before.before.before.before.to-lines.ensures.outcome)
 
-pub write-lines-spec : {M : Type 1} → statement M
-write-lines-spec =
+pub cedar-to-lines-spec : {M : Type 1} → statement M
+cedar-to-lines-spec =
     tie.close (tie.spec (λ c κs. search rules) (λ c κs. search rules) (λ c κs. search rules) (λ c. search rules) returns)
