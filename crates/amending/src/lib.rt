@@ -1,4 +1,5 @@
 // Amend and undo: a value of a block, and the last entry of its sheet.
+#![tactic(auto)]
 ghost use Rattle.std.specs.Prelude.{◌≡◌, ◌<◌};
 ghost use Rattle.units.specs.Answers.{answered, onward};
 ghost use Rattle.block.specs.Judging.{judged};
@@ -14,7 +15,7 @@ use sheet::{Amendment, Opened};
 use units::Answer;
 
 // Why an amendment or its undoing is refused.
-#[derive(Drop)]
+#[derive(Clone, Copy)]
 pub enum Objection {
     Block(block::Refusal),
     Broken,
@@ -25,7 +26,7 @@ pub enum Objection {
 }
 
 // What becomes of a block and its sheet: how many amendments stand, or a refusal that leaves both.
-#[derive(Drop)]
+#[derive(Clone, Copy)]
 pub enum Amended {
     Standing(u16),
     Refused(Objection),

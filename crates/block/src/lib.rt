@@ -1,4 +1,5 @@
 // A block: records end to end, with length word and checksum; the judge.
+#![tactic(auto)]
 ghost use Rattle.std.specs.Prelude.{◌≡◌, ◌<◌, ◌≤◌, length};
 ghost use Rattle.units.specs.Answers.{answered};
 ghost use Rattle.words.specs.Words.{words_of, most_words};
@@ -10,7 +11,7 @@ use record::{Checked, Fault};
 use units::{Answer, Bytes, Words};
 
 // Why a block is refused: its frame, or one of its records.
-#[derive(Drop)]
+#[derive(Clone, Copy)]
 pub enum Refusal {
     Size,
     WordCount,
@@ -19,7 +20,7 @@ pub enum Refusal {
 }
 
 // What is found of a block: its records, or the first refusal.
-#[derive(Drop)]
+#[derive(Clone, Copy)]
 pub enum Judged {
     Records(u16),
     Refused(Refusal),

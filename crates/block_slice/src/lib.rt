@@ -1,4 +1,5 @@
 // Blocks that stand one after the other in a slice: each is judged where it starts, by the words that it states.
+#![tactic(auto)]
 ghost use Rattle.std.specs.Prelude.{◌≡◌, ◌<◌, ◌≤◌, length};
 ghost use Rattle.words.specs.Words.{words_of, word};
 ghost use Rattle.block_slice.specs.Blocks.{wrong_first, judge_stated, judge_next};
@@ -8,7 +9,7 @@ use block::{Judged, Refusal};
 use units::{Answer, Bytes, Words};
 
 // Why a slice of blocks is refused: it is too long, block n runs past it, or a block's own refusal.
-#[derive(Drop)]
+#[derive(Clone, Copy)]
 pub enum SliceRefusal {
     Long,
     Cut(u16),
@@ -16,7 +17,7 @@ pub enum SliceRefusal {
 }
 
 // What is found of blocks that are judged: a count of bytes, or the slice's refusal.
-#[derive(Drop)]
+#[derive(Clone, Copy)]
 pub enum Measured {
     Size(Bytes),
     Wrong(SliceRefusal),

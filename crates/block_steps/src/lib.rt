@@ -1,4 +1,5 @@
 // The records of a block, one after the other: the next one, record n, and one lent as a part of the block.
+#![tactic(auto)]
 ghost use Rattle.std.specs.Prelude.{◌≡◌};
 ghost use Rattle.words.specs.Words.{words_of, bytes_of};
 ghost use Rattle.block_steps.specs.Steps.{record_at};
@@ -7,7 +8,7 @@ ghost use Rattle.block_steps.specs.Promises.{StepsTo, FindsRecord};
 use units::Words;
 
 // The next record, by the words of the block before it and its own; or no more.
-#[derive(Drop)]
+#[derive(Clone, Copy)]
 pub enum Place {
     Record(Words, Words),
     NoMore,

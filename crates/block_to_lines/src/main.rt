@@ -1,4 +1,5 @@
 // Turns one block, which is all of standard input, into its lines, or says how it is refused.
+#![tactic(auto)]
 use libc::{STDIN_FILENO, STDOUT_FILENO};
 
 fn put_lines(block: &[u8]) {

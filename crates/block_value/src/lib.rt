@@ -1,4 +1,5 @@
 // A value of a block: where it stands, and another put in its place, the checksum patched.
+#![tactic(auto)]
 ghost use Rattle.std.specs.Prelude.{◌≡◌, ◌+◌, ◌≤◌, ◌<◌, length};
 ghost use Rattle.words.specs.Words.{words_of, Below, most_words};
 ghost use Rattle.record.specs.Rules.{RecordOk};
@@ -13,7 +14,7 @@ use sheet::Amendment;
 use units::{Answer, Words};
 
 // Why no value can be put in.
-#[derive(Drop)]
+#[derive(Clone, Copy)]
 pub enum Obstacle {
     NoSuchRecord,
     NoValue,
@@ -21,7 +22,7 @@ pub enum Obstacle {
 }
 
 // A value's place, as the words of the block before it; or why there is none.
-#[derive(Drop)]
+#[derive(Clone, Copy)]
 pub enum Spot {
     Value(Words),
     Refused(Obstacle),

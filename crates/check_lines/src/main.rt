@@ -1,4 +1,5 @@
 // Says how many bytes the block of these lines has, which are all of standard input, or how they are refused. No block is made.
+#![tactic(auto)]
 use libc::{STDIN_FILENO, STDOUT_FILENO};
 
 fn main() {

@@ -1,4 +1,5 @@
 // The four counts of a Data record: which words they are, whether they are in range, and what they need.
+#![tactic(auto)]
 ghost use Rattle.std.specs.Prelude.{◌≡◌, ◌≤◌, length};
 ghost use Rattle.words.specs.Words.{words_of};
 ghost use Rattle.words.specs.Scans.{within};
@@ -7,7 +8,7 @@ ghost use Rattle.counts.specs.Counts.{counts_of, words_needed, lines_needed, und
 use units::{Lines, Words};
 
 // The four counts of a Data record: its prologue, its 1-D parameters, its 2-D parameters, its rows.
-#[derive(Drop)]
+#[derive(Clone, Copy)]
 pub struct Counts {
     pub lprol: u16,
     pub jpar: u16,

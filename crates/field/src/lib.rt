@@ -1,4 +1,5 @@
 // A number in six columns of a line. A word, 0 to 65535, stands for its value in two's complement.
+#![tactic(auto)]
 ghost use Rattle.std.specs.Prelude.{◌≡◌, ◌+◌, ◌<◌, ◌≤◌, [], ◌∷◌, length};
 ghost use Rattle.std.proofs.lemmas.List.Edits.{sets};
 ghost use Rattle.units.specs.Decimal.{digit};
@@ -9,14 +10,14 @@ ghost use Rattle.field.specs.Reading.{with_digit, after_column, value_of, finish
 use units::Bytes;
 
 // What a field holds.
-#[derive(Drop)]
+#[derive(Clone, Copy)]
 pub enum Number {
     Word(u16),
     Bad,
 }
 
 // Where the reading of a field stands: the sign is true for a minus, and the digits have their value so far.
-#[derive(Drop)]
+#[derive(Clone, Copy)]
 pub enum Scan {
     Blank,
     Sign(bool),
@@ -25,7 +26,7 @@ pub enum Scan {
 }
 
 // What a field shows of a word: what stands right before the digits, a minus or one more blank, and the number that they say.
-#[derive(Drop)]
+#[derive(Clone, Copy)]
 struct Shown {
     lead: u32,
     number: u16,

@@ -1,4 +1,5 @@
 // The plan of a record's lines: how many fields stand on each.
+#![tactic(auto)]
 ghost use Rattle.std.specs.Prelude.{◌≡◌, min};
 
 use units::Words;

@@ -1,4 +1,5 @@
 // Turns lines, which are all of standard input, into their block, or says how they are refused: tests them first, and only then finds room for a block.
+#![tactic(auto)]
 use libc::{STDIN_FILENO, STDOUT_FILENO};
 use read_text::Judged;
 

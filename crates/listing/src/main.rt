@@ -1,4 +1,5 @@
 // Lists the records of one block, which is all of standard input, or says how it is refused.
+#![tactic(auto)]
 use libc::{STDIN_FILENO, STDOUT_FILENO};
 
 fn put_listing(block: &[u8]) {

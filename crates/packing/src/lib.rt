@@ -1,4 +1,5 @@
 // Records packed into blocks, in their order: the current block, and which one the next record goes into.
+#![tactic(auto)]
 ghost use Rattle.std.specs.Prelude.{◌≡◌, ◌≤◌};
 ghost use Rattle.words.specs.Words.{most_record_words};
 ghost use Rattle.packing.specs.Current.{count_limit, sealed_bytes, room_for, with_record, bytes_to};
@@ -6,7 +7,7 @@ ghost use Rattle.packing.specs.Current.{count_limit, sealed_bytes, room_for, wit
 use units::{Bytes, Words};
 
 // The current block: it begins behind `start` bytes of the output, and has `used` record words so far.
-#[derive(Drop)]
+#[derive(Clone, Copy)]
 pub struct Current {
     pub start: Bytes,
     pub used: Words,

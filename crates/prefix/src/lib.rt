@@ -1,4 +1,5 @@
 // Table 3 of the format: the three letters of an instrument's code, found by a binary search.
+#![tactic(auto)]
 ghost use Rattle.std.specs.Prelude.{◌≡◌, true, ◌<◌, get_or};
 ghost use Rattle.prefix.specs.Rising.{rises};
 ghost use Rattle.prefix.specs.LookUp.{place_in};
@@ -8,7 +9,7 @@ ghost use Rattle.prefix.specs.Promises.{FindsPrefix};
 use units::Answer;
 
 // The byte values of the three letters.
-#[derive(Drop)]
+#[derive(Clone, Copy)]
 pub struct Letters(pub u8, pub u8, pub u8);
 
 // The codes of Table 3's first listing, apart from their letters, so that the search can be lent them.

@@ -1,4 +1,5 @@
 // What stands in the columns of a line of text.
+#![tactic(auto)]
 ghost use Rattle.std.specs.Prelude.{◌≡◌, ◌++◌, ◌+◌, ◌^◌, ◌≤◌, ◌<◌, min, length, take};
 ghost use Rattle.units.specs.Answers.{answer, fitted, passed, onward};
 ghost use Rattle.words.specs.Scans.{plain_in};
@@ -9,7 +10,7 @@ use field::Number;
 use units::{Answer, Bytes, Lines, Words};
 
 // Why a text is refused: the line and, where it is not always the same, the column, both counted from 1.
-#[derive(Drop)]
+#[derive(Clone, Copy)]
 pub enum Flaw {
     Byte(Lines, Bytes),
     NoRecord,
@@ -24,7 +25,7 @@ pub enum Flaw {
 }
 
 // What is found of some columns.
-#[derive(Drop)]
+#[derive(Clone, Copy)]
 pub enum Tested {
     Good,
     Flawed(Flaw),

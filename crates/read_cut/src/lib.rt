@@ -1,4 +1,5 @@
 // The lines of a text. Only this crate knows how a line ends.
+#![tactic(auto)]
 ghost use Rattle.std.specs.Prelude.{◌≡◌, true, ◌+◌, ◌≤◌, ◌<◌, eqb, leb, length, get_or, drop};
 ghost use Rattle.words.specs.Scans.{within, plain_in};
 ghost use Rattle.read_cut.specs.Lines.{end_length, PlainOn, CutAt};
@@ -6,7 +7,7 @@ ghost use Rattle.read_cut.specs.Lines.{end_length, PlainOn, CutAt};
 use units::Bytes;
 
 // Where a line ends, where the next one begins, and how many of its bytes are plain, from 32 to 126, before the first that is not.
-#[derive(Drop)]
+#[derive(Clone, Copy)]
 pub struct Cut {
     pub end: Bytes,
     pub next: Bytes,

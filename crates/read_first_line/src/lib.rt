@@ -1,4 +1,5 @@
 // Reads a record's first line, which says what is to come of the record, and puts its words into a block as far as that has room.
+#![tactic(auto)]
 ghost use Rattle.std.specs.Prelude.{◌≡◌, ◌∷◌, ◌++◌, map, ◌-◌, ◌≤◌, ◌<◌, min, length, get_or, take, drop, replicate};
 ghost use Rattle.std.proofs.Math.Seq.{slice};
 ghost use Rattle.words.specs.Words.{most_record_words};
@@ -13,7 +14,7 @@ use read_columns::{Flaw, Tested};
 use units::{Lines, Words};
 
 // What is to come of a record: cards; or fields of the present part, then `singles` 1-D parts and `rows` 2-D parts, codes and rows.
-#[derive(Drop)]
+#[derive(Clone, Copy)]
 pub struct Rest {
     pub cards: Lines,
     pub left: Words,
@@ -24,7 +25,7 @@ pub struct Rest {
 }
 
 // After a line: what is to come, and the record words so far; or why it is refused.
-#[derive(Drop)]
+#[derive(Clone, Copy)]
 pub enum Move {
     Next(Rest, Words),
     Refused(Flaw),

@@ -1,4 +1,5 @@
 // The record words of a text. The same loop judges and writes: into a block of no bytes nothing is written.
+#![tactic(auto)]
 ghost use Rattle.std.specs.Prelude.{◌≡◌};
 ghost use Rattle.read_first_line.specs.State.{to_come};
 ghost use Rattle.read_records.specs.Content.{stored, stored_of, Ended};
@@ -9,7 +10,7 @@ use read_first_line::{Move, Rest};
 use units::{Bytes, Lines, Words};
 
 // What is found of a text: its record words, or why it is refused.
-#[derive(Drop)]
+#[derive(Clone, Copy)]
 pub enum Content {
     RecordWords(Words),
     Flawed(Flaw),

@@ -1,4 +1,5 @@
 // Lines to block, in two calls: one judges the lines and tells the size of their block, one judges them again and writes it.
+#![tactic(auto)]
 ghost use Rattle.std.specs.Prelude.{◌≡◌, ◌+◌, ◌≤◌, ◌<◌, ◌^◌};
 ghost use Rattle.units.specs.Answers.{passed, answered, fitted};
 ghost use Rattle.units.specs.Units.{bytes_of_words};
@@ -13,14 +14,14 @@ use read_records::Content;
 use units::{Answer, Bytes, Words};
 
 // What is found of a text: the bytes of its block, or why it is refused.
-#[derive(Drop)]
+#[derive(Clone, Copy)]
 pub enum Judged {
     Size(Bytes),
     Flawed(Flaw),
 }
 
 // What becomes of a text: the bytes of its block, its refusal, or a buffer that is too short for the bytes needed.
-#[derive(Drop)]
+#[derive(Clone, Copy)]
 pub enum Built {
     Block(Bytes),
     Refused(Flaw),

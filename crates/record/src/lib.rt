@@ -1,4 +1,5 @@
 // One record: its kind, what must be zero, its cards, and its lines.
+#![tactic(auto)]
 ghost use Rattle.std.specs.Prelude.{◌≡◌, ◌+◌, ◌<◌, ◌≤◌, length};
 ghost use Rattle.std.proofs.Math.Seq.{slice};
 ghost use Rattle.words.specs.Words.{words_of};
@@ -18,7 +19,7 @@ pub const HEADER: u16 = 3002;
 pub const DATA: u16 = 1002;
 
 // What is wrong with a record: the record's number, and the word's where it varies.
-#[derive(Drop)]
+#[derive(Clone, Copy)]
 pub enum Fault {
     Short(u16),
     Kind(u16),
@@ -29,7 +30,7 @@ pub enum Fault {
 }
 
 // What is found of a record: it is good, with its words, or its block is refused.
-#[derive(Drop)]
+#[derive(Clone, Copy)]
 pub enum Checked {
     Passed(Words),
     Refused(Fault),

@@ -1,4 +1,5 @@
 // Packs the blocks of a file, which is all of standard input, again, or says how it is refused.
+#![tactic(auto)]
 use libc::{STDIN_FILENO, STDOUT_FILENO};
 
 fn put_blocks(slice: &[u8]) {

@@ -1,4 +1,5 @@
 // Blocks one after the other, packed again: their records in their order, in as few blocks as hold them.
+#![tactic(auto)]
 ghost use Rattle.std.specs.Prelude.{◌≡◌, [], ◌∷◌, ◌<◌, ◌≤◌, ◌^◌, length};
 ghost use Rattle.std.proofs.lemmas.List.Edits.{sets};
 ghost use Rattle.words.specs.Words.{words_of, bytes_of, most_record_words, block_from};
@@ -22,7 +23,7 @@ use units::{Answer, Bytes, Words};
 const MOST_BYTES: usize = 64000;
 
 // What becomes of a slice of blocks: the bytes of its blocks packed again, its refusal, or an output that is too short for the bytes needed.
-#[derive(Drop)]
+#[derive(Clone, Copy)]
 pub enum Repacked {
     Blocks(Bytes),
     Refused(SliceRefusal),

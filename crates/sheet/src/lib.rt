@@ -1,4 +1,5 @@
 // The amendment sheet: its layout, its entries, and starting one.
+#![tactic(auto)]
 ghost use Rattle.std.specs.Prelude.{◌≡◌, not, [], ◌∷◌, ◌++◌, ◌+◌, ◌*◌, ◌≤◌, ◌<◌, length, get_or, take, drop, replicate};
 ghost use Rattle.std.proofs.lemmas.List.Edits.{sets};
 ghost use Rattle.units.specs.Units.{bytes_of_words};
@@ -20,7 +21,7 @@ const SIZE: usize = 520;
 pub const LIMIT: u16 = 64;
 
 // The numbers of an entry: record number, word number in the record, old value, new value.
-#[derive(Drop)]
+#[derive(Clone, Copy)]
 pub struct Amendment {
     pub number: u16,
     pub word: u16,
@@ -29,7 +30,7 @@ pub struct Amendment {
 }
 
 // What is found of a sheet: how many amendments stand, or that it does not keep its layout.
-#[derive(Drop)]
+#[derive(Clone, Copy)]
 pub enum Opened {
     Standing(u16),
     Broken,

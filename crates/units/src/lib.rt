@@ -1,22 +1,23 @@
 // The three units of the format, kept apart, with the named conversions between them; and the four numbers of an answer.
+#![tactic(auto)]
 ghost use Rattle.std.specs.Prelude.{◌≡◌, ◌+◌, ◌*◌, ◌/◌, ◌^◌, ◌<◌};
 ghost use Rattle.units.specs.Units.{bytes_of_words, words_of_bytes, lines_of_cards, words_of_cards, lines_of_fields, columns_of_fields, ends_of_lines};
 ghost use Rattle.units.specs.Answers.{answer, fitted, packed_of};
 
 // A count of 16-bit words, as LTOT of a binary record.
-#[derive(Drop)]
+#[derive(Clone, Copy)]
 pub struct Words(pub usize);
 
 // A count of lines, as LTOT of a record in character form.
-#[derive(Drop)]
+#[derive(Clone, Copy)]
 pub struct Lines(pub usize);
 
 // A count of bytes, as the length of a buffer.
-#[derive(Drop)]
+#[derive(Clone, Copy)]
 pub struct Bytes(pub usize);
 
 // The four numbers of an answer.
-#[derive(Drop)]
+#[derive(Clone, Copy)]
 pub struct Answer {
     pub n: u8,
     pub a: u32,

@@ -1,4 +1,5 @@
 // Block to lines: the standard lines of a block's records, written straight into the lent text.
+#![tactic(auto)]
 ghost use Rattle.std.specs.Prelude.{◌≡◌, ◌^◌, ◌≤◌, ◌<◌, length};
 ghost use Rattle.words.specs.Words.{word, words_of, most_record_words};
 ghost use Rattle.words.specs.Writing.{Room, Put};
@@ -19,7 +20,7 @@ use block::{Judged, Refusal};
 use units::{Answer, Bytes, Lines, Words};
 
 // What becomes of a block: the bytes of its text, its refusal, or a text that is too short for the bytes needed.
-#[derive(Drop)]
+#[derive(Clone, Copy)]
 pub enum Lined {
     Text(Bytes),
     Refused(Refusal),
