@@ -27,7 +27,7 @@ pub enum Judged {
 }
 
 // A byte count that is odd, under 36 or over 16,000.
-fn wrong_size_lem(size: Bytes) -> bool
+fn wrong_size(size: Bytes) -> bool
     ensures { result ≡ wrong_size size.0 }
 {
     let bytes = size.0;
@@ -83,7 +83,7 @@ fn judge_words(block: &[u8]) -> Judged
 pub fn judge(block: &[u8]) -> Judged
     ensures { Judges block.now result }
 {
-    if wrong_size_lem(Bytes(block.len())) {
+    if wrong_size(Bytes(block.len())) {
         return Judged::Refused(Refusal::Size);
     }
     let stated = units::words_said(words::word_at(block, Words(0))).0;

@@ -1,0 +1,34 @@
+use Prim.Native.Nat.{◌+◌}
+use mathlib.Core.Path.{◌≡◌, sym, ap, ◌∙◌}
+use native.Mathlib.Omega.{arith}
+use Rattle.words.specs.Words.{words_of, bytes_of}
+use Rattle.words.proofs.Laws.{length_words_of, bytes_slice, all_below}
+use Rattle.block_steps.specs.declared.Place.TheVariants.{Record}
+use Rattle.block_steps.specs.Steps.{step_of, words_at}
+use Rattle.block_steps.proofs.Steps.{FoundBefore, step_found}
+use Rattle.block_steps.proofs.record_at.Goals as goal
+
+pub returns-in_default : goal.returns-in_default
+unfolding bytes_of
+returns-in_default c = rw (sym c.step.ensures ∙ c.in_default.is)
+
+pub overflow_add-end : goal.overflow_add-end
+overflow_add-end c = omega (arith, (let the_found : (let p = c.place-1.given.0 in
+    FoundBefore (words_of c.args.block.now) c.args.at.0 p.0.0 p.1.0.0) = step_found _ _ _ _ ((let the_stands : (let p = c.place-1.given.0 in
+    step_of (words_of c.args.block.now) c.args.at.0 ≡ Record p.0 p.1.0) = sym c.step.ensures ∙ c.in-Record.is in the_stands)) in the_found), length_words_of c.args.block.now)
+
+pub span-requires : goal.span-requires
+span-requires c = omega (arith, (let the_found : (let p = c.place-1.given.0 in
+    FoundBefore (words_of c.args.block.now) c.args.at.0 p.0.0 p.1.0.0) = step_found _ _ _ _ ((let the_stands : (let p = c.place-1.given.0 in
+    step_of (words_of c.args.block.now) c.args.at.0 ≡ Record p.0 p.1.0) = sym c.step.ensures ∙ c.in-Record.is in the_stands)) in the_found))
+
+pub returns : goal.returns
+returns c = let b = c.args.block.now in
+    let found = (let the_found : (let p = c.place-1.given.0 in
+    FoundBefore (words_of c.args.block.now) c.args.at.0 p.0.0 p.1.0.0) = step_found _ _ _ _ ((let the_stands : (let p = c.place-1.given.0 in
+    step_of (words_of c.args.block.now) c.args.at.0 ≡ Record p.0 p.1.0) = sym c.step.ensures ∙ c.in-Record.is in the_stands)) in the_found) in
+    let p = c.place-1.given.0 in
+    c.span.ensures
+    ∙ bytes_slice p.0.0 (p.0.0 + p.1.0.0) b (omega arith) (all_below 256 b (λ i. omega (arith, c.type_inv.block i)))
+    ∙ ap (λ p. bytes_of (words_at (words_of b) p)) (sym ((let the_stands : (let p = c.place-1.given.0 in
+    step_of (words_of c.args.block.now) c.args.at.0 ≡ Record p.0 p.1.0) = sym c.step.ensures ∙ c.in-Record.is in the_stands)))

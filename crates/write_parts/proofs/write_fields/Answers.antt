@@ -1,0 +1,38 @@
+use Rattle.write_parts.proofs.Turns.{fields_turn, no_fields, field_put}
+use Rattle.write_parts.specs.Laid.{fields_of}
+use Rattle.field.proofs.Written.{length_field_of}
+use Rattle.field.specs.Writing.{field_of}
+use Rattle.words.proofs.Writing.{start, fits, on, done}
+use Rattle.words.proofs.Laws.{length_words_of}
+use Rattle.words.specs.Words.{words_of}
+use lib.ListN.{length, take, drop}
+use native.Mathlib.Omega.{arith}
+use mathlib.Core.List.{◌++◌}
+use mathlib.Core.Path.{◌≡◌}
+use Prim.Native.Nat.{◌+◌, ◌-◌, ◌≤◌}
+use Rattle.write_parts.proofs.write_fields.Goals as goal
+
+pub loop-left-init : goal.loop-left-init
+loop-left-init c = (c.requires.0, start)
+
+pub write_field-requires : goal.write_field-requires
+write_field-requires c = (let the_room : (c.loop-left.to + 6 ≤ length c.loop-left.out) = omega (arith, fits c.loop-left.invariant.1 (field_of c.word_at.result) _ ((let the_turn : (let l = c.loop-left in let ws = words_of c.args.whole.now in
+    fields_of (take l.left (drop l.place ws)) ≡ field_of c.word_at.result ++ fields_of (take (l.left - 1) (drop (l.place + 1) ws))) = let l = c.loop-left in fields_turn (words_of c.args.whole.now) l.place l.left c.word_at.result (omega arith) (omega arith) c.word_at.ensures in the_turn)) c.requires.1, length_field_of c.word_at.result) in the_room)
+
+pub overflow_add-place : goal.overflow_add-place
+overflow_add-place c = omega (arith, length_words_of c.args.whole.now)
+
+pub overflow_add-to : goal.overflow_add-to
+overflow_add-to c = omega (arith, (let the_room : (c.loop-left.to + 6 ≤ length c.loop-left.out) = omega (arith, fits c.loop-left.invariant.1 (field_of c.word_at.result) _ ((let the_turn : (let l = c.loop-left in let ws = words_of c.args.whole.now in
+    fields_of (take l.left (drop l.place ws)) ≡ field_of c.word_at.result ++ fields_of (take (l.left - 1) (drop (l.place + 1) ws))) = let l = c.loop-left in fields_turn (words_of c.args.whole.now) l.place l.left c.word_at.result (omega arith) (omega arith) c.word_at.ensures in the_turn)) c.requires.1, length_field_of c.word_at.result) in the_room), c.loop-left.invariant.1.kept)
+
+pub loop-left-preserved : goal.loop-left-preserved
+loop-left-preserved c = let l = c.loop-left in
+    (omega arith, on l.invariant.1 (field_of c.word_at.result) _ ((let the_turn : (let l = c.loop-left in let ws = words_of c.args.whole.now in
+    fields_of (take l.left (drop l.place ws)) ≡ field_of c.word_at.result ++ fields_of (take (l.left - 1) (drop (l.place + 1) ws))) = let l = c.loop-left in fields_turn (words_of c.args.whole.now) l.place l.left c.word_at.result (omega arith) (omega arith) c.word_at.ensures in the_turn)) (field_put _ _ _ c.write_field.ensures))
+
+pub shape_of-out : goal.shape_of-out
+shape_of-out c = c.loop-left.invariant.1.kept
+
+pub returns : goal.returns
+returns c = done c.loop-left.invariant.1 (no_fields (drop c.loop-left.place (words_of c.args.whole.now)) c.loop-left.left (omega arith))
