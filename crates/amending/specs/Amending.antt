@@ -1,6 +1,6 @@
 -- Document 01, "The amendment sheet" and "Answer numbers": what amend and undo answer, and leave of block and sheet.
 use Rattle.std.specs.Prelude.{ℕ, ◌-◌, List, [], ◌∷◌, ◌++◌, not, eqb, leb, length, get_or, take}
-use Rattle.units.specs.Choice.{if◌then◌else◌}
+use Rattle.std.specs.Prelude.{if◌then◌else◌}
 use Rattle.units.specs.declared.Answer.{Answer}
 use Rattle.units.specs.Answers.{answer, Verdict, passed, refused, onward}
 use Rattle.block.specs.Judging.{judged}

@@ -1,7 +1,7 @@
 -- Document 02, request 1: the blocks that stand one after the other in a slice, judged block by block.
 use Rattle.std.specs.Prelude.{ℕ, zero, suc, ◌+◌, ◌-◌, Bool, ◌||◌, ltb, eqb, length, take}
 use mathlib.Core.List.{List, [], ◌∷◌, map, flatten}
-use Rattle.units.specs.Choice.{if◌then◌else◌}
+use Rattle.std.specs.Prelude.{if◌then◌else◌}
 use Rattle.units.specs.Units.{bytes_of_words}
 use Rattle.units.specs.Answers.{answer, Verdict, passed, refused, onward}
 use Rattle.words.specs.Words.{words_of, word, most_words}

@@ -9,7 +9,7 @@ use borrow.Author.Tests.{eqb-false, lt-ltb, le-ltb, ne_eqb}
 use lib.Dec.{eqb}
 use lib.ListN.{length, get_or, take, drop, length-append, length-drop, get_or-append}
 use lib.Seq.{slice, drop-drop, take-append_seam, drop-append_seam, get_or-drop}
-use Rattle.units.specs.Choice.{if◌then◌else◌}
+use Rattle.std.specs.Prelude.{if◌then◌else◌}
 use Rattle.units.specs.Answers.{passed}
 use Rattle.words.specs.Words.{words_of, word, joined, framed, All, Below, most_words}
 use Rattle.words.proofs.Lists.{part_slice}

@@ -1,7 +1,7 @@
 -- One step from a record to the next, and record n, on any words; and the same on a list of records.
 use Rattle.std.specs.Prelude.{ℕ, zero, suc, ◌+◌, ◌-◌, List, [], ◌∷◌, ◌||◌, ltb, eqb, length, get_or}
 use Rattle.std.proofs.Math.Seq.{slice}
-use Rattle.units.specs.Choice.{if◌then◌else◌}
+use Rattle.std.specs.Prelude.{if◌then◌else◌}
 use Rattle.block_steps.specs.declared.Place.{Place}
 use Rattle.block_steps.specs.declared.Place.TheVariants.{Record, NoMore}
 

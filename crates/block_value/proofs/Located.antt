@@ -9,7 +9,7 @@ use borrow.Author.Tests.{not-false, lt-ltb, le-ltb, eq-eqb, ne_eqb}
 use lib.Dec.{eqb-suc-zero, leb-suc-suc}
 use lib.ListN.{length, get_or, take, drop, length-append}
 use lib.Seq.{slice, split_at}
-use Rattle.units.specs.Choice.{if◌then◌else◌}
+use Rattle.std.specs.Prelude.{if◌then◌else◌}
 use Rattle.units.specs.Answers.{answer, passed, refused}
 use Rattle.units.specs.declared.Words.{Words}
 use Rattle.words.specs.Words.{words_of, joined, Below, most_words}

@@ -9,7 +9,7 @@ use borrow.Author.Tests.{ltb-false, leb-false, le-ltb, lt-leb}
 use lib.Dec.{ltb}
 use lib.ListN.{length, get_or, take, set}
 use lib.Seq.{get_or-take, get_or-set_other, take-take, take-append-le}
-use Rattle.units.specs.Choice.{if◌then◌else◌}
+use Rattle.std.specs.Prelude.{if◌then◌else◌}
 use Rattle.units.proofs.Verdicts.{or_off}
 use Rattle.counts.specs.declared.Counts.{Counts}
 use Rattle.counts.specs.Counts.{counts_of, under_least, in_range}

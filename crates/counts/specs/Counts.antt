@@ -1,6 +1,6 @@
 -- Document 01, "The binary block": the four counts of a Data record, and what they need.
 use Rattle.std.specs.Prelude.{ℕ, ◌+◌, ◌*◌, List, Bool, ◌||◌, ltb, leb}
-use Rattle.units.specs.Choice.{if◌then◌else◌}
+use Rattle.std.specs.Prelude.{if◌then◌else◌}
 use Rattle.units.specs.Units.{lines_of_fields}
 use Rattle.words.specs.Words.{word}
 use Rattle.words.specs.Scans.{within}

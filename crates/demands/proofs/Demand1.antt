@@ -8,7 +8,7 @@ use native.Mathlib.Omega.{arith}
 use borrow.Author.Tests.{ltb-true, leb-false}
 use lib.Dec.{ltb, eqb, leb}
 use lib.ListN.{length, length-append, length-take}
-use Rattle.units.specs.Choice.{if◌then◌else◌}
+use Rattle.std.specs.Prelude.{if◌then◌else◌}
 use Rattle.units.specs.Answers.{answer, Verdict, passed, refused, onward, answered, taken_apart, Packs}
 use Rattle.units.proofs.Packing.{taken_apart_lem}
 use Rattle.units.proofs.Verdicts.{and_on, never_passed}

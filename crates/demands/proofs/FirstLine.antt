@@ -8,7 +8,7 @@ use borrow.Author.Tests.{le-ltb, eq-eqb}
 use lib.Dec.{ltb, eqb}
 use lib.ListN.{length, get_or, take, drop, replicate, length-take, length-drop, take-append-drop}
 use lib.Seq.{take_all, take-add, take-take, length-take-le, get_or-take}
-use Rattle.units.specs.Choice.{if◌then◌else◌}
+use Rattle.std.specs.Prelude.{if◌then◌else◌}
 use Rattle.units.specs.Answers.{answer, passed, refused, onward}
 use Rattle.read_columns.specs.Columns.{column_of}
 use Rattle.words.specs.Words.{word, All, most_record_words}

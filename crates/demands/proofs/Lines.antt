@@ -10,7 +10,7 @@ use borrow.Author.Tests.{ltb-true, ltb-false}
 use lib.Dec.{ltb, eqb}
 use lib.ListN.{length, get_or, take, drop, set, replicate, length-append, length-take, length-drop, length-replicate}
 use lib.Seq.{sets, sets-eq, length-sets, drop-length, set-get_or, get_or-set_other, take-set-le, take-set-lt, drop-set-lt, drop-set-add, length-take-le}
-use Rattle.units.specs.Choice.{if◌then◌else◌}
+use Rattle.std.specs.Prelude.{if◌then◌else◌}
 use Rattle.words.specs.Words.{word, joined, All, Below, most_record_words}
 use Rattle.words.proofs.Lists.{all_append, all_replicate}
 use Rattle.words.proofs.Laws.{length_bytes_of}

@@ -1,6 +1,6 @@
 -- What the programs write: of an array that was printed into, the bytes before the place that the printing gives.
 use Rattle.std.specs.Prelude.{◌≡◌, List, [], ◌∷◌, ℕ, ◌≤◌, eqb, length, take}
-use Rattle.units.specs.Choice.{if◌then◌else◌}
+use Rattle.std.specs.Prelude.{if◌then◌else◌}
 use Rattle.units.specs.declared.Answer.{Answer}
 use Rattle.units.specs.Answers.{passed, refused}
 use Rattle.words.specs.Words.{Below}

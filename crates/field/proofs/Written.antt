@@ -1,7 +1,7 @@
 -- A written field is six columns, each a blank, a minus or a digit, and a field of its word.
 use Rattle.std.proofs.Common.{◌≡◌, ℕ, zero, suc, ◌+◌, ◌-◌, ◌*◌, ◌/◌, ◌%◌, ◌^◌, ◌<◌, ◌≤◌, Bool, true, false, ltb, List, [], ◌∷◌, ◌++◌, length, refl, append_assoc, pow-suc, arith, length-append, ltb-false, ltb-true}
 use lib.ListN.{length-replicate}
-use Rattle.units.specs.Choice.{if◌then◌else◌}
+use Rattle.std.specs.Prelude.{if◌then◌else◌}
 use Rattle.words.specs.Words.{All}
 use Rattle.words.proofs.Lists.{all_append, all_replicate}
 use Rattle.field.specs.Writing.{magnitude_of, sign_of, blanks, field_of, FieldByte, blank, minus, figure}

@@ -1,6 +1,6 @@
 -- Document 01, "The lines": a number field as it is read, column by column.
 use Rattle.std.specs.Prelude.{ℕ, zero, suc, ◌+◌, ◌-◌, ◌*◌, ◌%◌, Bool, true, false, ◌&&◌, List, [], ◌∷◌, ◌==◌, nat_le, slice_index_or}
-use Rattle.units.specs.Choice.{if◌then◌else◌}
+use Rattle.std.specs.Prelude.{if◌then◌else◌}
 use Rattle.field.specs.declared.Number.{Number}
 use Rattle.field.specs.declared.Number.TheVariants.{Word, Bad}
 use Rattle.field.specs.declared.Scan.{Scan}

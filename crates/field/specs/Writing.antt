@@ -1,6 +1,6 @@
 -- Document 01, "The lines": a number field as it is written.
 use Rattle.std.specs.Prelude.{ℕ, ◌-◌, List, [], ◌∷◌, ◌++◌, length, replicate, nat_lt}
-use Rattle.units.specs.Choice.{if◌then◌else◌}
+use Rattle.std.specs.Prelude.{if◌then◌else◌}
 use Rattle.units.specs.Decimal.{digit, decimal}
 
 -- "two's complement": how far from 0 the value of a word lies

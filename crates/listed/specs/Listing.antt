@@ -1,6 +1,6 @@
 -- Document 01, "Examples": what the listing program prints.
 use Rattle.std.specs.Prelude.{ℕ, ◌+◌, ◌-◌, List, [], ◌∷◌, ◌++◌, ltb, length}
-use Rattle.units.specs.Choice.{if◌then◌else◌}
+use Rattle.std.specs.Prelude.{if◌then◌else◌}
 use Rattle.words.specs.Words.{word}
 use Rattle.record.specs.Lines.{line_count}
 use Rattle.block.specs.Judging.{judged}

@@ -1,6 +1,6 @@
 -- The current block, as it goes from record to record.
 use Rattle.std.specs.Prelude.{ℕ, ◌+◌, List, [], ◌∷◌, leb, eqb, length}
-use Rattle.units.specs.Choice.{if◌then◌else◌}
+use Rattle.std.specs.Prelude.{if◌then◌else◌}
 use Rattle.units.specs.Units.{bytes_of_words}
 use Rattle.words.specs.Words.{most_record_words}
 use Rattle.packing.specs.declared.Current.{Current}

@@ -1,6 +1,6 @@
 -- Document 02, request 1: records packed into blocks.
 use Rattle.std.specs.Prelude.{ℕ, ◌+◌, List, [], ◌∷◌, map, leb, length}
-use Rattle.units.specs.Choice.{if◌then◌else◌}
+use Rattle.std.specs.Prelude.{if◌then◌else◌}
 use Rattle.words.specs.Words.{joined, most_record_words}
 use Rattle.block.specs.Rules.{block_of}
 

@@ -7,7 +7,7 @@ use native.Mathlib.Omega.{arith}
 use borrow.Author.Tests.{eq-eqb, ne_eqb}
 use lib.Dec.{eqb}
 use lib.ListN.{length, get_or}
-use Rattle.units.specs.Choice.{if◌then◌else◌}
+use Rattle.std.specs.Prelude.{if◌then◌else◌}
 use Rattle.prefix.specs.Rising.{rises}
 use Rattle.prefix.specs.LookUp.{beside, place_in, codes_of, values_of}
 use Rattle.prefix.proofs.Rising.{rising, later}

@@ -1,6 +1,6 @@
 -- A table of codes, each with a value beside it, and the value of a code.
 use Rattle.std.specs.Prelude.{List, [], ◌∷◌, map, ℕ, suc, eqb}
-use Rattle.units.specs.Choice.{if◌then◌else◌}
+use Rattle.std.specs.Prelude.{if◌then◌else◌}
 
 -- the value beside the first such code, the other for "every unlisted code"
 unfoldable pub beside : {A : Type 0} → List (ℕ × A) → ℕ → A → A

@@ -1,6 +1,6 @@
 -- Document 01, "Read form" and rows 20, 22 and 26: what stands in the columns of a line. `num` is the line's number in the text.
 use Rattle.std.specs.Prelude.{ℕ, zero, suc, ◌+◌, min, List, [], ◌∷◌, Bool, ltb, leb, eqb, length, take, drop}
-use Rattle.units.specs.Choice.{if◌then◌else◌}
+use Rattle.std.specs.Prelude.{if◌then◌else◌}
 use Rattle.units.specs.Units.{columns_of_fields, Line}
 use Rattle.units.specs.Answers.{answer, Verdict, passed, refused, onward}
 use Rattle.words.specs.Scans.{passing, plain_in}

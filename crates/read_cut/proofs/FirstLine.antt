@@ -10,7 +10,7 @@ use borrow.Author.Tests.{ne_eqb, eqb-true, leb-true}
 use lib.Dec.{leb, eqb}
 use lib.ListN.{length, get_or, take, drop, length-drop}
 use lib.Seq.{take-nil, drop-nil, drop-drop, get_or-drop}
-use Rattle.units.specs.Choice.{if◌then◌else◌}
+use Rattle.std.specs.Prelude.{if◌then◌else◌}
 use Rattle.units.proofs.Verdicts.{and_on}
 use Rattle.words.specs.Scans.{within, plain_in}
 use Rattle.words.proofs.Scans.{passes, scan_le, scan_take}

@@ -1,6 +1,6 @@
 -- Document 01, "Read form": the lines of a text.
 use Rattle.std.specs.Prelude.{ℕ, ◌+◌, ◌-◌, ◌≤◌, ◌<◌, ◌≡◌, List, [], ◌∷◌, ◌&&◌, eqb, length, get_or, take, drop}
-use Rattle.units.specs.Choice.{if◌then◌else◌}
+use Rattle.std.specs.Prelude.{if◌then◌else◌}
 use Rattle.words.specs.Scans.{plain_in}
 use Rattle.read_cut.specs.declared.Cut.{Cut}
 

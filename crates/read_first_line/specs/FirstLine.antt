@@ -1,6 +1,6 @@
 -- Document 01, "Read form" and "Order for text": a record's first line, and what it says is to come.
 use Rattle.std.specs.Prelude.{ℕ, ◌+◌, ◌-◌, min, List, ◌∷◌, ◌++◌, map, not, ◌||◌, ltb, eqb, length, drop, replicate}
-use Rattle.units.specs.Choice.{if◌then◌else◌}
+use Rattle.std.specs.Prelude.{if◌then◌else◌}
 use Rattle.units.specs.Units.{Line, words_of_cards, columns_of_fields}
 use Rattle.units.specs.Answers.{answer, Verdict, passed, refused, onward}
 use Rattle.words.specs.Words.{word, most_record_words}

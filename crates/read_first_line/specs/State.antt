@@ -1,7 +1,7 @@
 -- Where the reading of a text stands, as the code keeps it.
 use Rattle.std.specs.Prelude.{ℕ, ◌+◌, ◌≤◌, min, ◌≡◌, List, ◌++◌, map, eqb, length, get_or, take, replicate}
 use Rattle.std.proofs.lemmas.List.Edits.{sets}
-use Rattle.units.specs.Choice.{if◌then◌else◌}
+use Rattle.std.specs.Prelude.{if◌then◌else◌}
 use Rattle.units.specs.Units.{bytes_of_words}
 use Rattle.units.specs.Answers.{Verdict, passed, refused, onward}
 use Rattle.words.specs.Words.{word, bytes_of, most_record_words}

@@ -1,6 +1,6 @@
 -- Document 01, "Order for text".
 use Rattle.std.specs.Prelude.{ℕ, List, [], ltb, length}
-use Rattle.units.specs.Choice.{if◌then◌else◌}
+use Rattle.std.specs.Prelude.{if◌then◌else◌}
 use Rattle.units.specs.Answers.{answer, Verdict, refused}
 use Rattle.read_cut.specs.Lines.{lines_in}
 use Rattle.read_line.specs.Lines.{read_lines}

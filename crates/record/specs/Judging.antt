@@ -1,6 +1,6 @@
 -- Document 01, "The binary block" and "Answer numbers": judging the record that stands first in the rest of the record words.
 use Rattle.std.specs.Prelude.{ℕ, ◌+◌, ◌%◌, ◌≤◌, ◌≡◌, List, Bool, not, ◌||◌, ltb, eqb, length}
-use Rattle.units.specs.Choice.{if◌then◌else◌}
+use Rattle.std.specs.Prelude.{if◌then◌else◌}
 use Rattle.units.specs.Answers.{answer, Verdict, passed, refused}
 use Rattle.words.specs.Words.{word, words}
 use Rattle.words.specs.Scans.{passing, some_fails, word_within, is_zero}

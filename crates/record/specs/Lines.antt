@@ -1,6 +1,6 @@
 -- Document 01, "The lines": how many lines a record takes.
 use Rattle.std.specs.Prelude.{ℕ, List, eqb, length}
-use Rattle.units.specs.Choice.{if◌then◌else◌}
+use Rattle.std.specs.Prelude.{if◌then◌else◌}
 use Rattle.units.specs.Units.{lines_of_cards}
 use Rattle.words.specs.Words.{word}
 use Rattle.counts.specs.Counts.{counts_of, lines_needed}

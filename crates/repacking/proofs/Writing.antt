@@ -9,7 +9,7 @@ use borrow.Author.Tests.{leb-false, le-leb, lt-leb}
 use lib.Dec.{leb}
 use lib.ListN.{length, take, drop, length-append, length-drop, drop_of_length-le}
 use lib.Seq.{sets, length-sets, slice, sets-eq, take_all, take_at, drop-drop, drop-append-le, length-take-le, length-slice, slice_empty}
-use Rattle.units.specs.Choice.{if◌then◌else◌}
+use Rattle.std.specs.Prelude.{if◌then◌else◌}
 use Rattle.units.specs.Units.{bytes_of_words}
 use Rattle.words.specs.Words.{words_of, bytes_of, words, joined, block_from, most_record_words}
 use Rattle.words.proofs.Laws.{length_words_of, length_bytes_of, words_bytes, words_append, words-slice}

@@ -1,6 +1,6 @@
 -- Document 01, "The amendment sheet": the bytes of a sheet, for any layout.
 use Rattle.std.specs.Prelude.{ℕ, zero, suc, ◌+◌, ◌-◌, ◌*◌, List, [], ◌∷◌, ◌++◌, Bool, not, ◌||◌, eqb, ltb, length, get_or, take, drop, replicate}
-use Rattle.units.specs.Choice.{if◌then◌else◌}
+use Rattle.std.specs.Prelude.{if◌then◌else◌}
 use Rattle.units.specs.Units.{bytes_of_words}
 use Rattle.units.specs.Answers.{answer, Verdict, passed, refused}
 use Rattle.words.specs.Words.{words_of, bytes_of, joined}

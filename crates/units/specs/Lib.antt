@@ -1,4 +1,3 @@
-pub mod Choice
 pub mod Units
 pub mod Answers
 pub mod Decimal

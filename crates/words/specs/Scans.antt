@@ -1,6 +1,6 @@
 -- Scans: how many pass before the first that is wrong.
 use Rattle.std.specs.Prelude.{ℕ, suc, ◌/◌, ◌%◌, List, [], ◌∷◌, Bool, ◌&&◌, ltb, leb, eqb, length}
-use Rattle.units.specs.Choice.{if◌then◌else◌}
+use Rattle.std.specs.Prelude.{if◌then◌else◌}
 
 -- how many elements stand before the first that fails the test: all of them where none fails
 unfoldable pub passing : (ℕ → Bool) → List ℕ → ℕ

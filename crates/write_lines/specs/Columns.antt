@@ -1,6 +1,6 @@
 -- Where a word of a Data record stands in the record's text.
 use Rattle.std.specs.Prelude.{ℕ, suc, ◌+◌, ◌-◌, List, [], ◌∷◌, ltb}
-use Rattle.units.specs.Choice.{if◌then◌else◌}
+use Rattle.std.specs.Prelude.{if◌then◌else◌}
 use Rattle.units.specs.Units.{columns_of_fields, ends_of_lines}
 use Rattle.line_plan.specs.Plan.{data_plan}
 

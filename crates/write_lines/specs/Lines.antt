@@ -1,6 +1,6 @@
 -- Document 01, "The lines": the standard lines of a record, over its words.
 use Rattle.std.specs.Prelude.{ℕ, ◌+◌, ◌-◌, List, ◌∷◌, eqb, take, drop}
-use Rattle.units.specs.Choice.{if◌then◌else◌}
+use Rattle.std.specs.Prelude.{if◌then◌else◌}
 use Rattle.words.specs.Words.{word, words_of}
 use Rattle.record.specs.Lines.{line_count}
 use Rattle.units.specs.Units.{Line, columns_of_fields, bytes_of_words}
