@@ -10,4 +10,4 @@ returns-then-word_at-ne-DATA c = simp (← c.word_at.ensures, ne_eqb _ _ c.if-wo
 
 pub returns : goal.returns
 unfolding is_value
-returns c = simp (← c.word_at.ensures, eq-eqb _ _ c.if-word_at-ne-DATA.false) (c.among_values.ensures ∙ ap (λ x. among_values x c.args.word.0) c.Counts-of.ensures)
+returns c = simp (← c.word_at.ensures, eq-eqb _ _ c.if-word_at-ne-DATA.false) (c.among_values.ensures ∙ ap (λ x. among_values x c.args.word.0) c.counts_of.ensures)

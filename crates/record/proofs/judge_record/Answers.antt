@@ -8,7 +8,7 @@ use borrow.Author.Tests.{lt-ltb, le-ltb, eq-eqb, ne_eqb}
 use Rattle.record.proofs.judge_record.Goals as goal
 
 -- what is judged by its kind, once the prologue fits
-module : ℕ) (r : List ℕ) {left kind : ℕ} (size : left ≡ length r) (fits : 16 ≤ left) (is : kind ≡ get_or r 1 0) where
+module _ (n : ℕ) (r : List ℕ) {left kind : ℕ} (size : left ≡ length r) (fits : 16 ≤ left) (is : kind ≡ get_or r 1 0) where
   module _ {v : Verdict ℕ} where
     as_catalogue : kind ≡ 2001 → v ≡ judge_cards n 13 r → v ≡ judge_record n r
     unfolding judge_record

@@ -10,4 +10,4 @@ returns-then-word_at-ne-DATA c = simp (← c.word_at.ensures, ne_eqb _ _ c.if-wo
 
 pub returns : goal.returns
 unfolding line_count
-returns c = simp (← c.word_at.ensures, eq-eqb _ _ c.if-word_at-ne-DATA.false) (c.lines_needed.ensures ∙ ap lines_needed c.Counts-of.ensures)
+returns c = simp (← c.word_at.ensures, eq-eqb _ _ c.if-word_at-ne-DATA.false) (c.lines_needed.ensures ∙ ap lines_needed c.counts_of.ensures)

@@ -1,24 +1,6 @@
 
 use Rattle.record.proofs.numbers.Goals as goal
 
-pub enum_known-f : goal.enum_known-f
-enum_known-f c = c.in-Short.keys1
-
-pub enum_known-f-in-Kind-1 : goal.enum_known-f-in-Kind-1
-enum_known-f-in-Kind-1 c = c.in-Kind.keys2
-
-pub enum_known-f-in-Total-1 : goal.enum_known-f-in-Total-1
-enum_known-f-in-Total-1 c = c.in-Total.keys3
-
-pub enum_known-f-in-NotZero-1 : goal.enum_known-f-in-NotZero-1
-enum_known-f-in-NotZero-1 c = c.in-NotZero.keys4
-
-pub enum_known-f-in-Card-1 : goal.enum_known-f-in-Card-1
-enum_known-f-in-Card-1 c = c.in-Card.keys5
-
-pub enum_known-f-in-Counts-1 : goal.enum_known-f-in-Counts-1
-enum_known-f-in-Counts-1 c = c.in-Counts.keys6
-
 pub returns-in-Short : goal.returns-in-Short
 returns-in-Short c = rw c.in-Short.is c.row.ensures
 
