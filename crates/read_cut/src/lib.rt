@@ -1,5 +1,6 @@
 // The lines of a text. Only this crate knows how a line ends.
 #![tactic(auto)]
+
 ghost use Rattle.std.specs.Prelude.{◌≡◌, true, ◌+◌, ◌≤◌, ◌<◌, eqb, leb, length, get_or, drop};
 ghost use Rattle.words.specs.Scans.{within, plain_in};
 ghost use Rattle.read_cut.specs.Lines.{end_length, PlainOn, CutAt};
