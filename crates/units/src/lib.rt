@@ -1,5 +1,6 @@
 // The three units of the format, kept apart, with the named conversions between them; and the four numbers of an answer.
 #![tactic(auto)]
+
 ghost use Rattle.std.specs.Prelude.{◌≡◌, ◌+◌, ◌*◌, ◌/◌, ◌^◌, ◌<◌};
 ghost use Rattle.units.specs.Units.{bytes_of_words, words_of_bytes, lines_of_cards, words_of_cards, lines_of_fields, columns_of_fields, ends_of_lines};
 ghost use Rattle.units.specs.Answers.{answer, fitted, packed_of};
