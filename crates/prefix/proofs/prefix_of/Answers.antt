@@ -20,8 +20,8 @@ place_in-row-requires c = refl
 
 pub returns-then-row-lt63 : goal.returns-then-row-lt63
 unfolding table
-returns-then-row-lt63 c = at_place _ _ _ c.IsPlace-in.ensures c.letters_at.ensures
+returns-then-row-lt63 c = at_place _ _ _ c.place_in-row.ensures c.letters_at.ensures
 
 pub returns-else-row-lt63 : goal.returns-else-row-lt63
 unfolding table
-returns-else-row-lt63 c = at_place _ _ _ c.IsPlace-in.ensures (sym (get_or-eq_default prefixes dashes c.if-row-lt63.false))
+returns-else-row-lt63 c = at_place _ _ _ c.place_in-row.ensures (sym (get_or-eq_default prefixes dashes c.if-row-lt63.false))
