@@ -1,5 +1,6 @@
 // The four counts of a Data record: which words they are, whether they are in range, and what they need.
 #![tactic(auto)]
+
 ghost use Rattle.std.specs.Prelude.{◌≡◌, ◌≤◌, length};
 ghost use Rattle.words.specs.Words.{words_of};
 ghost use Rattle.words.specs.Scans.{within};

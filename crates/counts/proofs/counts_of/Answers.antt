@@ -1,4 +1,3 @@
-
 use Rattle.counts.proofs.counts_of.Goals as goal
 
 pub returns : goal.returns
