@@ -1,12 +1,6 @@
 use Rattle.amending.proofs.Outcome.{look_refused, look_ready}
 use Rattle.amending.proofs.amend.Goals as goal
 
-pub enum_known-r : goal.enum_known-r
-enum_known-r c = c.in-Refused.keys1
-
-pub enum_known-count : goal.enum_known-count
-enum_known-count c = c.in-Standing.keys2
-
 pub amend_next-requires : goal.amend_next-requires
 amend_next-requires c = search look_ready
 

@@ -4,12 +4,6 @@ use Rattle.amending.proofs.amend_next.Goals as goal
 pub returns-then-count-ge-LIMIT : goal.returns-then-count-ge-LIMIT
 returns-then-count-ge-LIMIT c = search amend-full
 
-pub enum_known-o : goal.enum_known-o
-enum_known-o c = c.in-Refused.keys1
-
-pub enum_told-1 : goal.enum_told-1
-enum_told-1 c = c.in-Value.keys2
-
 pub returns-in-Refused : goal.returns-in-Refused
 returns-in-Refused c = search amend-refused
 

@@ -2,12 +2,6 @@ use mathlib.Core.Path.{sym, ap, ◌∙◌}
 use Rattle.block.specs.Cases.{judged_of}
 use Rattle.amending.proofs.look.Goals as goal
 
-pub enum_known-r : goal.enum_known-r
-enum_known-r c = c.in-Refused.keys1
-
-pub enum_told-1 : goal.enum_told-1
-enum_told-1 c = c.in-Records.keys2
-
 pub returns-in-Refused : goal.returns-in-Refused
 returns-in-Refused c = rw (sym c.judge.ensures ∙ ap judged_of c.in-Refused.is)
 

@@ -1,12 +1,6 @@
 use Rattle.block_value.proofs.Patched.{exchange_refused, spot-within, exchange-done}
 use Rattle.block_value.proofs.exchange.Goals as goal
 
-pub enum_known-r : goal.enum_known-r
-enum_known-r c = c.in-Refused.keys1
-
-pub enum_known-at : goal.enum_known-at
-enum_known-at c = c.in-Value.keys2
-
 pub put_value-requires : goal.put_value-requires
 put_value-requires c = search spot-within
 

@@ -3,12 +3,6 @@ use native.Mathlib.Omega.{arith}
 use Rattle.block_value.proofs.Located.{Located, located, no_record_lem, part_ok, part_value}
 use Rattle.block_value.proofs.find_value.Goals as goal
 
-pub enum_told-1 : goal.enum_told-1
-enum_told-1 c = c.in-NoMore.keys1
-
-pub enum_known-at : goal.enum_known-at
-enum_known-at c = c.in-Record.keys2
-
 pub overflow_add-end : goal.overflow_add-end
 overflow_add-end c = omega (arith, (let the_it : (let a = c.args in Located a.block.now a.e.number c.in-Record.at c.in-Record.size) = search located in the_it))
 

@@ -5,15 +5,6 @@ use Rattle.units.specs.Answers.{fitted}
 use Rattle.units.proofs.Packing.{fitted_is}
 use Rattle.repacking.proofs.numbers.Goals as goal
 
-pub enum_known-r : goal.enum_known-r
-enum_known-r c = c.in-Blocks.keys1
-
-pub enum_known-r-in-Refused-1 : goal.enum_known-r-in-Refused-1
-enum_known-r-in-Refused-1 c = c.in-Refused.keys2
-
-pub enum_known-r-in-Short-1 : goal.enum_known-r-in-Short-1
-enum_known-r-in-Short-1 c = c.in-Short.keys3
-
 pub returns-in-Blocks : goal.returns-in-Blocks
 returns-in-Blocks c = rw c.in-Blocks.is c.sized.ensures
 
