@@ -1,15 +1,17 @@
 // Turns one block, which is all of standard input, into its lines, or says how it is refused.
 #![tactic(auto)]
-use libc::{STDIN_FILENO, STDOUT_FILENO};
 
-fn put_lines(block: &[u8]) {
+use std::io;
+use std::io::{Print, Read};
+
+fn put_lines(rt: &HostRuntime, block: &[u8]) -> io::Result<()> {
     let mut text = [0u8; printed::TEXT_BYTES];
     let end = printed::print_lines(block, &mut text).0;
-    io::write_all(STDOUT_FILENO, &text[..end]);
+    rt.write_all(&text[..end])
 }
 
-fn main() {
-    let mut input = [0u8; 16001];
-    let n = io::read_full(STDIN_FILENO, &mut input);
-    put_lines(&input[..n]);
+fn main(rt: HostRuntime) -> io::Result<()> {
+    let mut input = Vec::new(rt.alloc());
+    rt.reader().take(16001).read_to_end(&mut input)?;
+    put_lines(&rt, &input)
 }

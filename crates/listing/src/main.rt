@@ -1,15 +1,17 @@
 // Lists the records of one block, which is all of standard input, or says how it is refused.
 #![tactic(auto)]
-use libc::{STDIN_FILENO, STDOUT_FILENO};
 
-fn put_listing(block: &[u8]) {
+use std::io;
+use std::io::{Print, Read};
+
+fn put_listing(rt: &HostRuntime, block: &[u8]) -> io::Result<()> {
     let mut listing = [0u8; listed::LISTING_BYTES];
     let end = listed::print_listing(block, &mut listing).0;
-    io::write_all(STDOUT_FILENO, &listing[..end]);
+    rt.write_all(&listing[..end])
 }
 
-fn main() {
-    let mut input = [0u8; 16001];
-    let n = io::read_full(STDIN_FILENO, &mut input);
-    put_listing(&input[..n]);
+fn main(rt: HostRuntime) -> io::Result<()> {
+    let mut input = Vec::new(rt.alloc());
+    rt.reader().take(16001).read_to_end(&mut input)?;
+    put_listing(&rt, &input)
 }

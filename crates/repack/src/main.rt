@@ -1,15 +1,17 @@
 // Packs the blocks of a file, which is all of standard input, again, or says how it is refused.
 #![tactic(auto)]
-use libc::{STDIN_FILENO, STDOUT_FILENO};
 
-fn put_blocks(slice: &[u8]) {
+use std::io;
+use std::io::{Print, Read};
+
+fn put_blocks(rt: &HostRuntime, slice: &[u8]) -> io::Result<()> {
     let mut packed = [0u8; printed::SLICE_BYTES];
     let end = printed::print_blocks(slice, &mut packed).0;
-    io::write_all(STDOUT_FILENO, &packed[..end]);
+    rt.write_all(&packed[..end])
 }
 
-fn main() {
-    let mut input = [0u8; 64001];
-    let n = io::read_full(STDIN_FILENO, &mut input);
-    put_blocks(&input[..n]);
+fn main(rt: HostRuntime) -> io::Result<()> {
+    let mut input = Vec::new(rt.alloc());
+    rt.reader().take(64001).read_to_end(&mut input)?;
+    put_blocks(&rt, &input)
 }
