@@ -12,7 +12,7 @@ use borrow.Author.Tests.{eq-eqb, ne_eqb}
 use Rattle.block.proofs.judge.Goals as goal
 
 -- the size is right; the words that are stated, and those that are there, as they are read
-module : List ℕ) {stated there : ℕ} (off : wrong_size (length b) ≡ false) (says : stated ≡ get_or (words_of b) 0 0) (size : there ≡ length (words_of b)) where
+module _ (b : List ℕ) {stated there : ℕ} (off : wrong_size (length b) ≡ false) (says : stated ≡ get_or (words_of b) 0 0) (size : there ≡ length (words_of b)) where
   judged-refused : (stated ≡ there → ⊥) → refused (answer 2 0 0 0) ≡ judged b
   unfolding judged
   judged-refused ne = simp (off, ← says, ← size, ne_eqb stated there ne)

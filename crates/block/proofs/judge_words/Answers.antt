@@ -14,22 +14,12 @@ use borrow.Author.Tests.{eq-eqb, ne_eqb}
 use Rattle.block.proofs.judge_words.Goals as goal
 
 -- n words, the last of them and the exclusive or of the others, as they are read
-module : List ℕ) {n stored sum : ℕ} (size : n ≡ length ws) (s : stored ≡ get_or ws (n - 1) 0) (x : sum ≡ xor_all (take (n - 1) ws)) where
+module _ (ws : List ℕ) {n stored sum : ℕ} (size : n ≡ length ws) (s : stored ≡ get_or ws (n - 1) 0) (x : sum ≡ xor_all (take (n - 1) ws)) where
   summed-refused : (stored ≡ sum → ⊥) → refused (answer 3 0 0 (ones (bit_xor stored sum))) ≡ judge_words ws
   summed-refused ne = simp (← size, ← s, ← x, ne_eqb stored sum ne)
   summed-walked : {v : Verdict ℕ} → stored ≡ sum → v ≡ walk 0 1 (slice 1 (n - 1) ws) → v ≡ judge_words ws
   summed-walked e w = simp (← size, ← s, ← x, eq-eqb stored sum e, w)
 
-
-abbrev start-before-exclusive-or : tie.After-exclusive-or → tie.Start
-start-before-exclusive-or c = (count-before-exclusive-or c).before.before
-
--- the block, and the words before its last one
-abbrev block : tie.After-exclusive-or → List ℕ
-block c = (start-before-exclusive-or c).args.block.now
-
-abbrev end : tie.After-exclusive-or → ℕ
-end c = (count-before-exclusive-or c).count.result.0 - 1
 
 pub overflow_cast-bits : goal.overflow_cast-bits
 overflow_cast-bits c = let x = c.word_at-stored.result in let y = c.exclusive_or-checksum.result in
@@ -38,10 +28,10 @@ overflow_cast-bits c = let x = c.word_at-stored.result in let y = c.exclusive_or
     omega (arith, ones-le 16 (bit_xor x y) (xor_lt 16 x y hx hy))
 
 pub returns-then-stored-checksum : goal.returns-then-stored-checksum
-returns-then-stored-checksum c = summed-refused (words_of (block c)) c.count-end.ensures c.word_at-stored.ensures ((let the_sum_is : (c.exclusive_or-checksum.result ≡ xor_all (take (end c) (words_of (block c)))) = c.exclusive_or-checksum.ensures ∙ ap (λ l. xor_all (words_of l)) c.span.ensures ∙ ap xor_all (words-slice 0 (end c) (block c)) in the_sum_is)) c.if-stored-checksum.true
+returns-then-stored-checksum c = summed-refused (words_of c.args.block.now) c.count-end.ensures c.word_at-stored.ensures ((let the_sum_is : (c.exclusive_or-checksum.result ≡ xor_all (take (c.count-end.result.0 - 1) (words_of c.args.block.now))) = c.exclusive_or-checksum.ensures ∙ ap (λ l. xor_all (words_of l)) c.span.ensures ∙ ap xor_all (words-slice 0 (c.count-end.result.0 - 1) c.args.block.now) in the_sum_is)) c.if-stored-checksum.true
 
 pub judge_records-requires : goal.judge_records-requires
-judge_records-requires c = omega (arith, c.count-end.ensures, (start-before-exclusive-or c).requires, ap length ((let the_inner_is : (words_of c.span-2.result.now ≡ slice 1 (end c) (words_of (block c))) = ap words_of c.span-2.ensures ∙ words-slice 1 (end c) (block c) in the_inner_is)), length-slice 1 (end c) (words_of (block c)) (omega arith))
+judge_records-requires c = omega (arith, c.count-end.ensures, c.requires, ap length ((let the_inner_is : (words_of c.span-2.result.now ≡ slice 1 (c.count-end.result.0 - 1) (words_of c.args.block.now)) = ap words_of c.span-2.ensures ∙ words-slice 1 (c.count-end.result.0 - 1) c.args.block.now in the_inner_is)), length-slice 1 (c.count-end.result.0 - 1) (words_of c.args.block.now) (omega arith))
 
 pub returns : goal.returns
-returns c = summed-walked (words_of (block c)) c.count-end.ensures c.word_at-stored.ensures ((let the_sum_is : (c.exclusive_or-checksum.result ≡ xor_all (take (end c) (words_of (block c)))) = c.exclusive_or-checksum.ensures ∙ ap (λ l. xor_all (words_of l)) c.span.ensures ∙ ap xor_all (words-slice 0 (end c) (block c)) in the_sum_is)) c.if-stored-checksum.false (rw (← (let the_inner_is : (words_of c.span-2.result.now ≡ slice 1 (end c) (words_of (block c))) = ap words_of c.span-2.ensures ∙ words-slice 1 (end c) (block c) in the_inner_is)) c.judge_records.ensures)
+returns c = summed-walked (words_of c.args.block.now) c.count-end.ensures c.word_at-stored.ensures ((let the_sum_is : (c.exclusive_or-checksum.result ≡ xor_all (take (c.count-end.result.0 - 1) (words_of c.args.block.now))) = c.exclusive_or-checksum.ensures ∙ ap (λ l. xor_all (words_of l)) c.span.ensures ∙ ap xor_all (words-slice 0 (c.count-end.result.0 - 1) c.args.block.now) in the_sum_is)) c.if-stored-checksum.false (rw (← (let the_inner_is : (words_of c.span-2.result.now ≡ slice 1 (c.count-end.result.0 - 1) (words_of c.args.block.now)) = ap words_of c.span-2.ensures ∙ words-slice 1 (c.count-end.result.0 - 1) c.args.block.now in the_inner_is)) c.judge_records.ensures)

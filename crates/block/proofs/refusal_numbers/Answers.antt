@@ -1,17 +1,4 @@
-
 use Rattle.block.proofs.refusal_numbers.Goals as goal
-
-pub enum_told-1 : goal.enum_told-1
-enum_told-1 c = c.in-Size.keys1
-
-pub enum_told-in-WordCount : goal.enum_told-in-WordCount
-enum_told-in-WordCount c = c.in-WordCount.keys2
-
-pub enum_known-r : goal.enum_known-r
-enum_known-r c = c.in-Checksum.keys3
-
-pub enum_known-r-in-Record-1 : goal.enum_known-r-in-Record-1
-enum_known-r-in-Record-1 c = c.in-Record.keys4
 
 pub returns-in-Size : goal.returns-in-Size
 returns-in-Size c = rw c.in-Size.is c.row.ensures
