@@ -1,67 +1,61 @@
-// The calls for C, and nothing else: each returns its answer's four numbers as one.
+// The calls for C as functions, and nothing else: each returns its answer's four numbers as one. `cedar_c` exports them.
 #![tactic(auto)]
+
 ghost use Rattle.std.specs.Prelude.{[], ◌∷◌};
 ghost use Rattle.cedar.specs.Promises.{CedarJudges, CedarFindsPrefix, CedarWritesLines, CedarJudgesLines, CedarWritesBlock, CedarStartsSheet, CedarAmends, CedarUndoes, CedarRepacks};
 
 use sheet::Amendment;
 
-// uint64_t cedar_judge(const uint8_t *block, size_t length);
-#[unsafe(no_mangle)]
-pub extern "C" fn cedar_judge(block: &[u8]) -> u64
+// Judges a block.
+pub fn cedar_judge(block: &[u8]) -> u64
     ensures { CedarJudges block.now result }
 {
     let judged = block::judge(block);
     units::pack(block::numbers(judged))
 }
 
-// uint64_t cedar_prefix(uint16_t instrument);
-#[unsafe(no_mangle)]
-pub extern "C" fn cedar_prefix(instrument: u16) -> u64
+// Finds an instrument's prefix.
+pub fn cedar_prefix(instrument: u16) -> u64
     ensures { CedarFindsPrefix instrument result }
 {
     let letters = prefix::prefix_of(instrument);
     units::pack(prefix::numbers(letters))
 }
 
-// uint64_t cedar_to_lines(const uint8_t *block, size_t block_length, uint8_t *text, size_t text_length);
-#[unsafe(no_mangle)]
-pub extern "C" fn cedar_to_lines(block: &[u8], text: &mut [u8]) -> u64
+// Writes the lines of a block.
+pub fn cedar_to_lines(block: &[u8], text: &mut [u8]) -> u64
     ensures { CedarWritesLines block.now text.old result text.new }
 {
     let lined = write_lines::to_lines(block, text);
     units::pack(write_lines::numbers(lined))
 }
 
-// uint64_t cedar_judge_lines(const uint8_t *text, size_t text_length);
-#[unsafe(no_mangle)]
-pub extern "C" fn cedar_judge_lines(text: &[u8]) -> u64
+// Judges lines, and writes nothing.
+pub fn cedar_judge_lines(text: &[u8]) -> u64
     ensures { CedarJudgesLines text.now result }
 {
     let judged = read_text::judge_lines(text);
     units::pack(read_text::judged_numbers(judged))
 }
 
-// uint64_t cedar_write_block(const uint8_t *text, size_t text_length, uint8_t *block, size_t block_length);
-#[unsafe(no_mangle)]
-pub extern "C" fn cedar_write_block(text: &[u8], block: &mut [u8]) -> u64
+// Writes the block of lines.
+pub fn cedar_write_block(text: &[u8], block: &mut [u8]) -> u64
     ensures { CedarWritesBlock text.now block.old result block.new }
 {
     let built = read_text::write_block(text, block);
     units::pack(read_text::built_numbers(built))
 }
 
-// uint64_t cedar_sheet_start(uint8_t *sheet, size_t length);
-#[unsafe(no_mangle)]
-pub extern "C" fn cedar_sheet_start(sheet: &mut [u8]) -> u64
+// Starts an empty sheet.
+pub fn cedar_sheet_start(sheet: &mut [u8]) -> u64
     ensures { CedarStartsSheet sheet.old result sheet.new }
 {
     let opened = sheet::start(sheet);
     units::pack(sheet::numbers(opened))
 }
 
-// uint64_t cedar_amend(uint8_t *block, size_t block_length, uint8_t *sheet, size_t sheet_length, uint16_t record, uint16_t word, uint16_t old_value, uint16_t new_value);
-#[unsafe(no_mangle)]
-pub extern "C" fn cedar_amend(
+// Amends a value of a block.
+pub fn cedar_amend(
     block: &mut [u8],
     sheet: &mut [u8],
     number: u16,
@@ -81,18 +75,16 @@ pub extern "C" fn cedar_amend(
     units::pack(amending::numbers(amended))
 }
 
-// uint64_t cedar_undo(uint8_t *block, size_t block_length, uint8_t *sheet, size_t sheet_length);
-#[unsafe(no_mangle)]
-pub extern "C" fn cedar_undo(block: &mut [u8], sheet: &mut [u8]) -> u64
+// Undoes the last amendment that stands.
+pub fn cedar_undo(block: &mut [u8], sheet: &mut [u8]) -> u64
     ensures { CedarUndoes block.old sheet.old result block.new sheet.new }
 {
     let amended = amending::undo(block, sheet);
     units::pack(amending::numbers(amended))
 }
 
-// uint64_t cedar_repack(const uint8_t *blocks, size_t blocks_length, uint8_t *out, size_t out_length);
-#[unsafe(no_mangle)]
-pub extern "C" fn cedar_repack(blocks: &[u8], out: &mut [u8]) -> u64
+// Packs blocks again.
+pub fn cedar_repack(blocks: &[u8], out: &mut [u8]) -> u64
     ensures { CedarRepacks blocks.now out.old result out.new }
 {
     let repacked = repacking::repack(blocks, out);
