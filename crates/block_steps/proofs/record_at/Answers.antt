@@ -13,22 +13,14 @@ unfolding bytes_of
 returns-in_default c = rw (sym c.step.ensures ∙ c.in_default.is)
 
 pub overflow_add-end : goal.overflow_add-end
-overflow_add-end c = omega (arith, (let the_found : (let p = c.place-1.given.0 in
-    FoundBefore (words_of c.args.block.now) c.args.at.0 p.0.0 p.1.0.0) = step_found _ _ _ _ ((let the_stands : (let p = c.place-1.given.0 in
-    step_of (words_of c.args.block.now) c.args.at.0 ≡ Record p.0 p.1.0) = sym c.step.ensures ∙ c.in-Record.is in the_stands)) in the_found), length_words_of c.args.block.now)
+overflow_add-end c = omega (arith, (let the_found : (FoundBefore (words_of c.args.block.now) c.args.at.0 c.in-Record.place.0 c.in-Record.size.0) = step_found _ _ _ _ ((let the_stands : (step_of (words_of c.args.block.now) c.args.at.0 ≡ Record c.in-Record.place c.in-Record.size) = sym c.step.ensures ∙ c.in-Record.is in the_stands)) in the_found), length_words_of c.args.block.now)
 
 pub span-requires : goal.span-requires
-span-requires c = omega (arith, (let the_found : (let p = c.place-1.given.0 in
-    FoundBefore (words_of c.args.block.now) c.args.at.0 p.0.0 p.1.0.0) = step_found _ _ _ _ ((let the_stands : (let p = c.place-1.given.0 in
-    step_of (words_of c.args.block.now) c.args.at.0 ≡ Record p.0 p.1.0) = sym c.step.ensures ∙ c.in-Record.is in the_stands)) in the_found))
+span-requires c = omega (arith, (let the_found : (FoundBefore (words_of c.args.block.now) c.args.at.0 c.in-Record.place.0 c.in-Record.size.0) = step_found _ _ _ _ ((let the_stands : (step_of (words_of c.args.block.now) c.args.at.0 ≡ Record c.in-Record.place c.in-Record.size) = sym c.step.ensures ∙ c.in-Record.is in the_stands)) in the_found))
 
 pub returns : goal.returns
 returns c = let b = c.args.block.now in
-    let found = (let the_found : (let p = c.place-1.given.0 in
-    FoundBefore (words_of c.args.block.now) c.args.at.0 p.0.0 p.1.0.0) = step_found _ _ _ _ ((let the_stands : (let p = c.place-1.given.0 in
-    step_of (words_of c.args.block.now) c.args.at.0 ≡ Record p.0 p.1.0) = sym c.step.ensures ∙ c.in-Record.is in the_stands)) in the_found) in
-    let p = c.place-1.given.0 in
+    let found = (let the_found : (FoundBefore (words_of c.args.block.now) c.args.at.0 c.in-Record.place.0 c.in-Record.size.0) = step_found _ _ _ _ ((let the_stands : (step_of (words_of c.args.block.now) c.args.at.0 ≡ Record c.in-Record.place c.in-Record.size) = sym c.step.ensures ∙ c.in-Record.is in the_stands)) in the_found) in
     c.span.ensures
-    ∙ bytes_slice p.0.0 (p.0.0 + p.1.0.0) b (omega arith) (all_below 256 b (λ i. omega (arith, c.type_inv.block i)))
-    ∙ ap (λ p. bytes_of (words_at (words_of b) p)) (sym ((let the_stands : (let p = c.place-1.given.0 in
-    step_of (words_of c.args.block.now) c.args.at.0 ≡ Record p.0 p.1.0) = sym c.step.ensures ∙ c.in-Record.is in the_stands)))
+    ∙ bytes_slice c.in-Record.place.0 (c.in-Record.place.0 + c.in-Record.size.0) b (omega arith) (all_below 256 b (λ i. omega (arith, c.type_inv.block i)))
+    ∙ ap (λ p. bytes_of (words_at (words_of b) p)) (sym ((let the_stands : (step_of (words_of c.args.block.now) c.args.at.0 ≡ Record c.in-Record.place c.in-Record.size) = sym c.step.ensures ∙ c.in-Record.is in the_stands)))
