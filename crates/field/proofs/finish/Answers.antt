@@ -1,4 +1,3 @@
-
 use Rattle.field.proofs.finish.Goals as goal
 
 pub returns-in-Digits : goal.returns-in-Digits

@@ -1,4 +1,3 @@
-use Rattle.std.proofs.Common.{◌-◌}
 use Rattle.field.proofs.Columns.{scan_starts, still-small, column-on, scan-ends, short_line, past-line}
 use Rattle.field.proofs.scan_field.Goals as goal
 
