@@ -1,5 +1,6 @@
 // What stands in the columns of a line of text.
 #![tactic(auto)]
+
 ghost use Rattle.std.specs.Prelude.{◌≡◌, ◌++◌, ◌+◌, ◌^◌, ◌≤◌, ◌<◌, min, length, take};
 ghost use Rattle.units.specs.Answers.{answer, fitted, passed, onward};
 ghost use Rattle.words.specs.Scans.{plain_in};

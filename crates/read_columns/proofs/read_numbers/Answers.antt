@@ -1,6 +1,5 @@
 use Rattle.read_columns.proofs.Row.{filled, fill_done, fill-bad, fill-word}
 use mathlib.Core.Path.{refl, sym, ◌∙◌}
-use Prim.Native.Nat.{◌-◌}
 use native.Mathlib.Omega.{arith}
 use Rattle.read_columns.proofs.read_numbers.Goals as goal
 

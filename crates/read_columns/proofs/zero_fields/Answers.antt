@@ -1,5 +1,4 @@
 use mathlib.Core.Path.{refl}
-use Prim.Native.Nat.{◌-◌}
 use native.Mathlib.Omega.{arith}
 use Rattle.read_columns.proofs.Zeros.{zeros-on, zeros-bad, zeros-done}
 use Rattle.read_columns.proofs.zero_fields.Goals as goal
