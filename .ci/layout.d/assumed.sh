@@ -12,10 +12,15 @@ nothing_assumed() {
             }
             return kept line
         }
-        FNR == 1 { marks = FILENAME ~ /\.rt$/ ? "\"|//" : "\"|(^| )--( |$)" }
+        # In code `?` behind a value hands on an error.
+        FNR == 1 {
+            rt = FILENAME ~ /\.rt$/
+            marks = rt ? "\"|//" : "\"|(^| )--( |$)"
+            hole = rt ? "(^|[^])A-Za-z0-9_}])[?]|[{]!" : "[?]|[{]!"
+        }
         /[?]|[{]!|axiom|Axiom|lem|ac|postulate|sorry/ {
             line = code($0)
-            if (line ~ /[?]|[{]!/) print FILENAME ", line " FNR ", has a hole: " $0
+            if (line ~ hole) print FILENAME ", line " FNR ", has a hole: " $0
             n = split(line, word, /[][()}{.,; \t]+/)
             for (i = 1; i <= n; i++) if (word[i] ~ /^(axiom|Axiom|lem|ac|postulate|sorry)$/) break
             if (i <= n) print FILENAME ", line " FNR ", names an axiom: " $0

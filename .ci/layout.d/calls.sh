@@ -10,6 +10,8 @@ calls_promise() {
     lacking "is not so in $table" <(laws) <(calls_as 'crates/demands/specs/Agree.antt: \4 of \3')
     lacking "is in $table, but not proved" <(calls_as 'crates/demands/proofs/Agree.antt: \4') <(laws_proved)
     lacking "is in no row of $table" <(functions_for_c) <(calls_as '\2')
+    lacking 'is an export for C, but no call of crates/cedar with this signature and contract' <(exports) <(exported)
+    lacking 'is a call of crates/cedar, but no export of crates/cedar_c with this signature and contract' <(exported) <(exports)
     lacking "is in no use line there" <(names_meant) <(names_used)
 }
 
@@ -18,39 +20,45 @@ calls_as() {
     calls | sed -E "s|^([a-z0-9_]+)::([a-z0-9_]+)\t([A-Za-z]+)\t([A-Za-z]+)\$|$1|"
 }
 
-# Each call is there and ensures `λ r. ⌜ PROMISE ARGUMENTS ⌝`, where the arguments are r, the parameters and buffers afterwards, as in
-#     ensures { λ r. ⌜ Judges (now (block .entry)) r ⌝ }
-# whose words, for `applied`, are: ensures { λ r. ⌜ Judges now block .entry r ⌝ }
+# The exports for C, and the calls that they are to export: an export promises what the call of its name promises.
+exports() {
+    functions | sed -nE 's/^cedar_c::([^\t]*\tpub )extern "C" /\1/p'
+}
+
+exported() {
+    functions | sed -n 's/^cedar:://p'
+}
+
+# Each call is there and ensures `PROMISE ARGUMENTS`, where the arguments are the result, the parameters and buffers afterwards, as in
+#     ensures { Judges block.now result }
 contracts() {
     awk -F '\t' '
         function applied(contract, promise,    word, n, i) {
             n = split(contract, word, /[() ]+/)
-            if (word[1] " " word[2] " " word[3] " " word[5] != "ensures { λ ⌜" || word[4] !~ /^[a-z]+\.$/) return 0
-            if (word[6] != promise || word[n - 1] " " word[n] != "⌝ }") return 0
-            for (i = 7; i < n - 1; i++)
-                if (word[i] !~ /^([A-Za-z][A-Za-z0-9_-]*|\.entry|\.exit|\.0|∷|\[\])$/) return 0
-            result = substr(word[4], 1, length(word[4]) - 1)
+            if (word[1] " " word[2] " " word[3] != "ensures { " promise || word[n] != "}") return 0
+            for (i = 4; i < n; i++)
+                if (word[i] !~ /^([A-Za-z][A-Za-z0-9_]*(\.now|\.old|\.new)?(\.0)?|∷|\[\])$/) return 0
             return 1
         }
         function told(contract, what) {
-            gsub(/[()]/, " ", contract)
+            gsub(/[()]|\.0/, " ", contract)
             if (!index(contract, " " what " ")) print place " does not tell " what " to its promise"
         }
         { split($1, part, "::"); place = "crates/" part[1] "/src/lib.rt: " part[2] }
         FNR == NR && ($1 in signature) { print place " is there twice" }
         FNR == NR { signature[$1] = $2; contract[$1] = $3; next }
-        signature[$1] !~ /^pub (extern "C" )?fn / { print place " is a call in docs/PROMISES.md, but no public function"; next }
+        signature[$1] !~ /^pub fn / { print place " is a call in docs/PROMISES.md, but no public function"; next }
         contract[$1] ~ /(^| )requires / { print place " has a requires: " contract[$1]; next }
         !applied(contract[$1], $2) { print place " does not ensure just " $2 " of names: " contract[$1]; next }
         {
-            told(contract[$1], result)
+            told(contract[$1], "result")
             parameters = signature[$1]; sub(/^[^(]*\( ?/, "", parameters)
             n = split(parameters, parameter, /, ?/)
             for (i = 1; i <= n; i++) {
                 name = parameter[i]
                 if (!sub(/: .*/, "", name)) continue
-                told(contract[$1], name (parameter[i] ~ /: &/ ? " .entry" : ""))
-                if (parameter[i] ~ /: &mut /) told(contract[$1], name " .exit")
+                told(contract[$1], name (parameter[i] ~ /: &mut / ? ".old" : parameter[i] ~ /: &/ ? ".now" : ""))
+                if (parameter[i] ~ /: &mut /) told(contract[$1], name ".new")
             }
         }' <(functions) <(calls)
 }
@@ -66,8 +74,8 @@ promises() {
 laws() {
     awk '
         function law() {
-            binders = "(\\([a-z -]+ : (List )*(ℕ|[A-Z][A-Za-z]*)\\) )+"
-            if (body ~ "^[A-Z][A-Za-z]* = " binders "→ Fixes[A-Za-z]* \\([A-Z][A-Za-z]*( [a-z-]+)+\\)$") {
+            binders = "(\\([a-z _-]+ : (List )*(ℕ|[A-Z][A-Za-z]*)\\) )+"
+            if (body ~ "^[A-Z][A-Za-z]* = " binders "→ Fixes[A-Za-z]* \\([A-Z][A-Za-z]*( [a-z_-]+)+\\)$") {
                 name = promise = given = told = body
                 sub(/ .*/, "", name)
                 sub(/^.*\(/, "", promise); sub(/ .*/, "", promise)
@@ -84,14 +92,15 @@ laws() {
 }
 
 laws_proved() {
-    awk '/^pub [a-z-]+ : [A-Z][A-Za-z]*$/ { print FILENAME ": " $4 }' crates/demands/proofs/Agree.antt
+    awk '/^pub [a-z_-]+ : [A-Z][A-Za-z]*$/ { print FILENAME ": " $4 }' crates/demands/proofs/Agree.antt
 }
 
 # A name is the promise's or the law's own: no other module gives it.
 names_meant() {
-    calls_as 'crates/\1/src/lib.rt: Rattle·\1·specs.specs.Promises.\3'
-    calls_as 'crates/demands/specs/Agree.antt: Rattle·\1.specs.Promises.\3'
-    calls_as 'crates/demands/proofs/Agree.antt: Rattle·demands·specs.specs.Agree.\4'
+    calls_as 'crates/\1/src/lib.rt: Rattle.\1.specs.Promises.\3'
+    calls_as 'crates/\1_c/src/lib.rt: Rattle.\1.specs.Promises.\3' | grep '^crates/cedar_c/'
+    calls_as 'crates/demands/specs/Agree.antt: Rattle.\1.specs.Promises.\3'
+    calls_as 'crates/demands/proofs/Agree.antt: Rattle.demands.specs.Agree.\4'
 }
 
 names_used() {

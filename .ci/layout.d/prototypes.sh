@@ -24,7 +24,7 @@ prototypes_for_c() {
 prototypes_beside() {
     awk '/^\/\/ / { comment = comment substr($0, 3); next }
         /extern "C" fn / && comment != "" { gsub(/[ \t]+/, " ", comment); print substr(comment, 2) }
-        !/^#\[/ { comment = "" }' crates/cedar/src/lib.rt
+        !/^#\[/ { comment = "" }' crates/cedar_c/src/lib.rt
 }
 
 # The comments, in names that both have: for C `number` is `record`, a word of antt, and `old` and `new`, a word of C++, end in `_value`.

@@ -8,5 +8,5 @@ statements() {
 }
 
 statements_shown() {
-    sed -nE 's/^pub [a-z0-9-]+ : ([A-Z][A-Za-z0-9]*)$/\1/p' crates/{demands,refusals}/proofs/*.antt
+    sed -nE 's/^pub [a-z0-9_-]+ : ([A-Z][A-Za-z0-9]*)$/\1/p' crates/{demands,refusals}/proofs/*.antt
 }
