@@ -11,7 +11,7 @@ use Rattle.block_slice.specs.Blocks.{wrong_first, judge_stated, judge_next}
 use Rattle.block_slice.proofs.judge_next.Goals as goal
 
 -- more than one byte is left, so the block states its words
-module : ℕ) (rest : List ℕ) {stated : ℕ} (more : length rest ≡ 1 → ⊥) (is : stated ≡ word (words_of rest) 1) where
+module _ (n : ℕ) (rest : List ℕ) {stated : ℕ} (more : length rest ≡ 1 → ⊥) (is : stated ≡ word (words_of rest) 1) where
   first-wrong : wrong_first stated ≡ true → refused (answer 1 0 0 0) ≡ judge_next n rest
   unfolding judge_next
   first-wrong w = simp (ne_eqb (length rest) 1 more, ← is, w)

@@ -16,7 +16,7 @@ use Rattle.block_slice.specs.Blocks.{judge_stated}
 use Rattle.block_slice.proofs.judge_stated.Goals as goal
 
 -- block n by its stated words, which are `size` bytes
-module : ℕ) (rest : List ℕ) {size : ℕ} (is : size ≡ bytes_of_words stated) where
+module _ (n stated : ℕ) (rest : List ℕ) {size : ℕ} (is : size ≡ bytes_of_words stated) where
   runs_past : length rest < size → refused (answer 51 n 0 0) ≡ judge_stated n stated rest
   unfolding judge_stated
   runs_past h = simp (lt-ltb (length rest) (bytes_of_words stated) (omega arith))
