@@ -6,7 +6,7 @@ use Rattle.packing.specs.Current.{sealed_bytes, bytes_to}
 use Rattle.packing.proofs.bytes_to.Goals as goal
 
 -- the current block has no record yet, or is sealed
-module : Current) where
+module _ (p : Current) where
   none_yet : p.used.0 ≡ 0 → p.start.0 ≡ bytes_to p
   unfolding bytes_to
   none_yet h = simp (eq-eqb p.used.0 0 h)

@@ -8,7 +8,7 @@ use Rattle.packing.specs.Current.{current_at, sealed_bytes, room_for}
 use Rattle.packing.proofs.room_for.Goals as goal
 
 -- the current block has room for k words, or a new one is begun behind it
-module : Current) (k : ℕ) where
+module _ (p : Current) (k : ℕ) where
   room_here : p.used.0 + k ≤ most_record_words → p ≡ room_for p k
   unfolding room_for
   room_here h = simp (le-leb (p.used.0 + k) most_record_words h)
