@@ -5,7 +5,7 @@ use mathlib.Core.List.{List, [], ◌∷◌, ◌++◌}
 use Prim.Native.Nat.{ℕ, zero, suc, ◌+◌, ◌-◌, ◌*◌, ◌≤◌, ◌<◌}
 use native.Mathlib.Nat.{add-zero}
 use native.Mathlib.Omega.{arith}
-use borrow.Author.Tests.{not-false, lt-ltb, le-ltb, eq-eqb, ne_eqb}
+use borrow.Author.Tests.{lt-ltb, le-ltb, eq-eqb, ne_eqb}
 use lib.Dec.{eqb-suc-zero, leb-suc-suc}
 use lib.ListN.{length, get_or, take, drop, length-append}
 use lib.Seq.{slice, split_at}
@@ -111,12 +111,12 @@ module _ (r : List ℕ) (at w v : ℕ) (m : Words) (e : m.0 ≡ w) (t : Bool) (q
   its_test : is_value r w ≡ t
   its_test = cc
 
-  pub value_none : not t ≡ true → refused (answer 42 0 0 0) ≡ value_in r at w v
+  pub value_none : t ≡ false → refused (answer 42 0 0 0) ≡ value_in r at w v
   value_none f = rw (its_test, f)
 
-  module _ (f : not t ≡ false) where
+  module _ (f : t ≡ true) where
     pub value_there : RecordOk r → ValueAt r w
-    value_there ok = value_at r w ok (its_test ∙ not-false t f)
+    value_there ok = value_at r w ok (its_test ∙ f)
 
     module _ (x : ℕ) (g : x ≡ get_or r (m.0 - 1) 0) where
       pub value-differs : (v ≡ x → ⊥) → refused (answer 43 x 0 0) ≡ value_in r at w v

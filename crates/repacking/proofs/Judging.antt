@@ -1,16 +1,16 @@
 -- A loop that judges block after block of a slice, and counts the bytes of their records packed again.
 use mathlib.Core.Path.{◌≡◌, refl, sym, ap, ◌∙◌}
 use mathlib.Core.List.{List, [], ◌∷◌, ◌++◌, flatten, append-nil, append_assoc}
-use Prim.Native.Nat.{ℕ, ◌+◌, ◌*◌, ◌≤◌, ◌<◌}
+use Prim.Native.Nat.{ℕ, ◌+◌, ◌-◌, ◌*◌, ◌≤◌, ◌<◌}
 use native.Mathlib.Omega.{arith}
 use lib.ListN.{length, take, drop, length-drop, drop_of_length-le}
-use lib.Seq.{drop-drop, append_snoc, length-take-le}
+use lib.Seq.{drop-drop, append_snoc, length-take-le, take_all}
 use Rattle.units.specs.declared.Answer.{Answer}
 use Rattle.units.specs.Units.{bytes_of_words}
 use Rattle.units.specs.Answers.{Verdict, passed, refused, onward}
 use Rattle.units.proofs.Verdicts.{onward_same}
 use Rattle.words.specs.Words.{joined, All, Below, most_record_words}
-use Rattle.words.proofs.Lists.{all_append, all_take}
+use Rattle.words.proofs.Lists.{all_append, all_take, all_drop}
 use Rattle.words.proofs.Sealing.{length-framed}
 use Rattle.block.specs.Judging.{Accepted}
 use Rattle.block.specs.Records.{records_of}
@@ -41,6 +41,13 @@ records_snoc : (bs : List (List ℕ)) (b : List ℕ) → records_in (bs ++ (b �
 unfolding flatten
 records_snoc [] b = append-nil (records_of b)
 records_snoc (c ∷ bs) b = ap (λ l. records_of c ++ l) (records_snoc bs b) ∙ sym (append_assoc (records_of c) (records_in bs) (records_of b))
+
+-- what is left of a slice from here on, as a part of it, and its bytes
+pub rest_is : (slice : List ℕ) (at : ℕ) → take (length slice - at) (drop at slice) ≡ drop at slice
+rest_is slice at = take_all (length slice - at) (drop at slice) (omega (arith, length-drop at slice))
+
+pub rest_bytes : (slice : List ℕ) (at : ℕ) → Below 256 slice → Below 256 (take (length slice - at) (drop at slice))
+rest_bytes slice at h = all_take (λ x. x < 256) (length slice - at) (drop at slice) (all_drop (λ x. x < 256) at slice h)
 
 -- it has come so far: the blocks before this place passed, and what is judged from there on gives the whole
 pub record Judging (slice : List ℕ) (at number : ℕ) (p : Current) : Type 0 where

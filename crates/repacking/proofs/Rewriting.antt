@@ -97,6 +97,10 @@ module _ {slice out₀ out : List ℕ} {at : ℕ} {p : Current} (w : Rewriting s
                 };
           }
 
+  -- behind it the slice goes on, or ends
+  pub block_within : {lent : List ℕ} {size : ℕ} → lent ≡ drop at slice → at < length slice → NextBlock w lent size → at + size ≤ length slice
+  block_within lent here n = omega (arith, n.room, ap length lent, length-drop at slice)
+
   -- which is there
   pub room_left : at < length slice → 36 ≤ length (drop at slice)
   unfolding joined

@@ -4,16 +4,17 @@ use Rattle.block_value.proofs.Located.{Located, located, no_record_lem, part_ok,
 use Rattle.block_value.proofs.find_value.Goals as goal
 
 pub overflow_add-end : goal.overflow_add-end
-overflow_add-end c = omega (arith, (let the_it : (let a = c.args in Located a.block.now a.e.number c.in-Record.at c.in-Record.size) = search located in the_it))
+overflow_add-end c = let it : Located c.args.block.now c.args.e.number c.in-Record.at c.in-Record.size = search located in omega (arith, it)
 
 pub span-requires : goal.span-requires
-span-requires c = omega (arith, (let the_it : (let a = c.args in Located a.block.now a.e.number c.in-Record.at c.in-Record.size) = search located in the_it))
+span-requires c = let it : Located c.args.block.now c.args.e.number c.in-Record.at c.in-Record.size = search located in omega (arith, it)
 
 pub value_in-requires : goal.value_in-requires
-value_in-requires c = (part_ok _ _ ((let the_it : (let a = c.args in Located a.block.now a.e.number c.in-Record.at c.in-Record.size) = search located in the_it)) c.span.ensures, omega (arith, (let the_it : (let a = c.args in Located a.block.now a.e.number c.in-Record.at c.in-Record.size) = search located in the_it)))
+value_in-requires c = let it : Located c.args.block.now c.args.e.number c.in-Record.at c.in-Record.size = search located in (part_ok _ _ it c.span.ensures, omega (arith, it))
 
 pub returns-in-NoMore : goal.returns-in-NoMore
 returns-in-NoMore c = search no_record_lem
 
 pub returns-in-Record : goal.returns-in-Record
-returns-in-Record c = c.value_in.ensures ∙ part_value _ _ ((let the_it : (let a = c.args in Located a.block.now a.e.number c.in-Record.at c.in-Record.size) = search located in the_it)) c.span.ensures _ refl _
+returns-in-Record c = let it : Located c.args.block.now c.args.e.number c.in-Record.at c.in-Record.size = search located in
+    c.value_in.ensures ∙ part_value _ _ it c.span.ensures _ refl _

@@ -12,10 +12,10 @@ pub returns-then-not-is_value : goal.returns-then-not-is_value
 returns-then-not-is_value c = search value_none
 
 pub overflow_sub-i : goal.overflow_sub-i
-overflow_sub-i c = omega (arith, (let the_there : (let a = c.args in ValueAt (words_of a.whole.now) a.word) = search value_there in the_there))
+overflow_sub-i c = let there : ValueAt (words_of c.args.whole.now) c.args.word = search value_there in omega (arith, there)
 
 pub word_at-found-requires : goal.word_at-found-requires
-word_at-found-requires c = omega (arith, (let the_there : (let a = c.args in ValueAt (words_of a.whole.now) a.word) = search value_there in the_there))
+word_at-found-requires c = let there : ValueAt (words_of c.args.whole.now) c.args.word = search value_there in omega (arith, there)
 
 pub returns-then-value-found : goal.returns-then-value-found
 returns-then-value-found c = search value-differs

@@ -1,5 +1,5 @@
 use mathlib.Core.Path.{refl}
-use Prim.Native.Nat.{◌-◌, ◌≤◌}
+use Prim.Native.Nat.{◌≤◌}
 use native.Mathlib.Omega.{arith}
 use Rattle.words.specs.Words.{most_record_words}
 use Rattle.words.proofs.Laws.{all_below}
@@ -11,25 +11,30 @@ use Rattle.repacking.proofs.count_records.Goals as goal
 
 pub loop-to-init : goal.loop-to-init
 loop-to-init c = let b = c.args.block.now in
-    loop_start b (all_below 256 b (λ i. omega (arith, c.type_inv.block i))) c.requires.0 (record { same = refl; can = c.requires.1 })
+    loop_start b (all_below 256 b (λ i. omega (arith, c.slice_known-1.given i))) c.requires.0 (record { same = refl; can = c.requires.1 })
 
 pub returns-then-n-eq0 : goal.returns-then-n-eq0
 unfolding current_after
 returns-then-n-eq0 c = (loop_end c.loop-to.invariant c.record_at-whole.ensures c.count-n.ensures c.if-n-eq0.true).same
 
 pub room_for-requires : goal.room_for-requires
-room_for-requires c = let can = ((let the_found : (Turn c.loop-to.invariant c.record_at-whole.result.now c.count-n.result.0) = turn c.loop-to.invariant c.record_at-whole.ensures c.count-n.ensures c.if-n-eq0.false in the_found)).holds.can in (can.used, (let the_fits : (c.count-n.result.0 ≤ most_record_words) = omega (arith, ((let the_found : (Turn c.loop-to.invariant c.record_at-whole.result.now c.count-n.result.0) = turn c.loop-to.invariant c.record_at-whole.ensures c.count-n.ensures c.if-n-eq0.false in the_found)).size, ((let the_found : (Turn c.loop-to.invariant c.record_at-whole.result.now c.count-n.result.0) = turn c.loop-to.invariant c.record_at-whole.ensures c.count-n.ensures c.if-n-eq0.false in the_found)).well-formed.most) in the_fits), omega (arith, can.bytes))
+room_for-requires c = let t = turn c.loop-to.invariant c.record_at-whole.ensures c.count-n.ensures c.if-n-eq0.false in
+    (t.holds.can.used, omega (arith, t.size, t.good.most), omega (arith, t.holds.can.bytes))
 
 pub with_record-to-requires : goal.with_record-to-requires
-with_record-to-requires c = let n = (let the_fits : (c.count-n.result.0 ≤ most_record_words) = omega (arith, ((let the_found : (Turn c.loop-to.invariant c.record_at-whole.result.now c.count-n.result.0) = turn c.loop-to.invariant c.record_at-whole.ensures c.count-n.ensures c.if-n-eq0.false in the_found)).size, ((let the_found : (Turn c.loop-to.invariant c.record_at-whole.result.now c.count-n.result.0) = turn c.loop-to.invariant c.record_at-whole.ensures c.count-n.ensures c.if-n-eq0.false in the_found)).well-formed.most) in the_fits) in
+with_record-to-requires c =
+    let t = turn c.loop-to.invariant c.record_at-whole.ensures c.count-n.ensures c.if-n-eq0.false in
+    let n : c.count-n.result.0 ≤ most_record_words = omega (arith, t.size, t.good.most) in
     (rw c.room_for.ensures (omega (arith, (room_at c.loop-to.to c.count-n.result.0 n).used)), n)
 
+found : (c : goal.After-with_record-to) → Turn c.loop-to.invariant c.record_at-whole.result.now c.count-n.result.0
+found c = turn c.loop-to.invariant c.record_at-whole.ensures c.count-n.ensures c.if-n-eq0.false
+
 pub overflow_add-at : goal.overflow_add-at
-overflow_add-at c = omega (arith, (let the_found : (Turn c.loop-to.invariant c.record_at-whole.result.now c.count-n.result.0) = turn c.loop-to.invariant c.record_at-whole.ensures c.count-n.ensures c.if-n-eq0.false in the_found))
+overflow_add-at c = omega (arith, found c)
 
 pub loop-to-smaller : goal.loop-to-smaller
-loop-to-smaller c = omega (arith, (let the_found : (Turn c.loop-to.invariant c.record_at-whole.result.now c.count-n.result.0) = turn c.loop-to.invariant c.record_at-whole.ensures c.count-n.ensures c.if-n-eq0.false in the_found))
+loop-to-smaller c = omega (arith, found c)
 
 pub loop-to-preserved : goal.loop-to-preserved
-loop-to-preserved c = let t = (let the_found : (Turn c.loop-to.invariant c.record_at-whole.result.now c.count-n.result.0) = turn c.loop-to.invariant c.record_at-whole.ensures c.count-n.ensures c.if-n-eq0.false in the_found) in
-    loop_on t (counted t.holds t.good t.size c.room_for.ensures c.with_record-to.ensures)
+loop-to-preserved c = let t = found c in loop_on t (counted t.holds t.good t.size c.room_for.ensures c.with_record-to.ensures)

@@ -9,7 +9,11 @@ pub returns-in-Blocks : goal.returns-in-Blocks
 returns-in-Blocks c = rw c.in-Blocks.is c.sized.ensures
 
 pub returns-in-Refused : goal.returns-in-Refused
-returns-in-Refused c = let w = (let the_words : ((c.refusal_numbers.result.a < 2 ^ 24) × (c.refusal_numbers.result.b < 2 ^ 16)) = (omega (arith, c.refusal_numbers.ensures.1), omega arith) in the_words) in rw c.in-Refused.is (sym (fitted_is _ w.0 w.1) ∙ ap fitted c.refusal_numbers.ensures.0, w.0)
+returns-in-Refused c =
+    let r = c.refusal_numbers.result in
+    let a : r.a < 2 ^ 24 = omega (arith, c.refusal_numbers.ensures.1) in
+    let b : r.b < 2 ^ 16 = omega arith in
+    rw c.in-Refused.is (sym (fitted_is r a b) ∙ ap fitted c.refusal_numbers.ensures.0, a)
 
 pub returns-in-Short : goal.returns-in-Short
 returns-in-Short c = rw c.in-Short.is c.sized-in-Short.ensures

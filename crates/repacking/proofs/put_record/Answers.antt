@@ -1,11 +1,7 @@
 use mathlib.Core.Path.{ap}
-use Prim.Native.Nat.{◌+◌, ◌≤◌}
+use Prim.Native.Nat.{◌+◌}
 use native.Mathlib.Omega.{arith}
-use lib.ListN.{length}
-use Rattle.units.specs.Units.{bytes_of_words}
-use Rattle.words.specs.Words.{most_record_words}
-use Rattle.packing.specs.Current.{count_limit}
-use Rattle.repacking.proofs.Writing.{record_start, can_seal, room-is, put-room, record-put}
+use Rattle.repacking.proofs.Writing.{can_seal, room-is, put-room, record-put}
 use Rattle.repacking.proofs.put_record.Goals as goal
 
 pub make_room-room-requires : goal.make_room-room-requires
@@ -13,24 +9,20 @@ make_room-room-requires c = let pre = c.requires in let h = can_seal pre.0 pre.2
     (pre.2.used, h.0, h.1, h.2)
 
 pub overflow_add-before : goal.overflow_add-before
-overflow_add-before c = omega (arith, ((let the_room : (let q = c.make_room-room.result in let k = c.count-k.result.0 in
-    (q.used.0 + k ≤ most_record_words) × (record_start q + bytes_of_words k ≤ length c.make_room-room.new.out) × (record_start q + bytes_of_words k ≤ count_limit)) = let pre = c.requires in room-is pre.0 pre.2 c.count-k.ensures c.make_room-room.ensures in the_room)).0)
+overflow_add-before c = omega (arith, (room-is c.requires.0 c.requires.2 c.count-k.ensures c.make_room-room.ensures).0)
 
 pub bytes_of_words-requires : goal.bytes_of_words-requires
-bytes_of_words-requires c = omega (arith, ((let the_room : (let q = c.make_room-room.result in let k = c.count-k.result.0 in
-    (q.used.0 + k ≤ most_record_words) × (record_start q + bytes_of_words k ≤ length c.make_room-room.new.out) × (record_start q + bytes_of_words k ≤ count_limit)) = let pre = c.requires in room-is pre.0 pre.2 c.count-k.ensures c.make_room-room.ensures in the_room)).0)
+bytes_of_words-requires c = omega (arith, (room-is c.requires.0 c.requires.2 c.count-k.ensures c.make_room-room.ensures).0)
 
 pub overflow_add-at : goal.overflow_add-at
-overflow_add-at c = omega (arith, ((let the_room : (let q = c.make_room-room.result in let k = c.count-k.result.0 in
-    (q.used.0 + k ≤ most_record_words) × (record_start q + bytes_of_words k ≤ length c.make_room-room.new.out) × (record_start q + bytes_of_words k ≤ count_limit)) = let pre = c.requires in room-is pre.0 pre.2 c.count-k.ensures c.make_room-room.ensures in the_room)).2, c.bytes_of_words.ensures)
+overflow_add-at c = omega (arith, (room-is c.requires.0 c.requires.2 c.count-k.ensures c.make_room-room.ensures).2, c.bytes_of_words.ensures)
 
 pub write_bytes-requires : goal.write_bytes-requires
 write_bytes-requires c = let pre = c.requires in
     put-room pre.0 pre.2 c.count-k.ensures c.make_room-room.ensures pre.1 (ap (λ n. c.make_room-room.result.start.0 + n) c.bytes_of_words.ensures)
 
 pub with_record-requires : goal.with_record-requires
-with_record-requires c = let h = ((let the_room : (let q = c.make_room-room.result in let k = c.count-k.result.0 in
-    (q.used.0 + k ≤ most_record_words) × (record_start q + bytes_of_words k ≤ length c.make_room-room.new.out) × (record_start q + bytes_of_words k ≤ count_limit)) = let pre = c.requires in room-is pre.0 pre.2 c.count-k.ensures c.make_room-room.ensures in the_room)).0 in (omega (arith, h), omega (arith, h))
+with_record-requires c = let h = (room-is c.requires.0 c.requires.2 c.count-k.ensures c.make_room-room.ensures).0 in (omega (arith, h), omega (arith, h))
 
 pub returns : goal.returns
 returns c = let pre = c.requires in
