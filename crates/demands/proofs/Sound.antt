@@ -17,7 +17,7 @@ use Rattle.read_cut.specs.Lines.{lines_in}
 use Rattle.read_first_line.specs.FirstLine.{Shape, Read}
 use Rattle.read_line.specs.Lines.{read_line, at_end, read_lines}
 use Rattle.read_records.specs.Reading.{read_text}
-use Rattle.read_records.specs.Spelled.{Readable, Blanks, LinesSpell, no_lines, a_line, Spelled, at_end_lem, blank_line, a_record}
+use Rattle.read_records.specs.Spelled.{Readable, Blanks, LinesSpell, no_lines, a_line, Spelled, at_text_end, blank_line, a_record}
 use Rattle.units.proofs.Told.{Known}
 use Rattle.read_records.specs.Cases.{TextRow}
 use Rattle.read_records.proofs.Opened.{words_to_come, Opens, skipped, opens, Given, Taken, line_known, RoomToCome}
@@ -106,7 +106,7 @@ no_more num held (x ∷ rest) ws e = absurd (never_passed e)
 no_more num held [] ws e =
     let p = (else_passed (eqb held 0) (answer 21 0 0 0) (passed []) ws e).1 in
     let none : ws ≡ [] = cc in
-    nothing_to_come [] ws (record { records = []; words = none; spelled = at_end_lem; readable = tt; each = tt })
+    nothing_to_come [] ws (record { records = []; words = none; spelled = at_text_end; readable = tt; each = tt })
 
 -- what the lines give from here is what they spell
 each_line : (num held : ℕ) (rest : List Shape) (ls : List Line) (ws : List ℕ) → num + length ls < 2 ^ 24 → RoomToCome held rest → read_lines num held rest ls ≡ passed ws → Behind rest ls ws

@@ -31,7 +31,7 @@ use Rattle.read_cut.specs.Lines.{onto, lines_in, end_length}
 use Rattle.read_columns.proofs.Columns.{columns_full}
 use Rattle.read_first_line.specs.FirstLine.{card, fields}
 use Rattle.read_records.specs.Reading.{read_text}
-use Rattle.read_records.specs.Spelled.{PlainByte, Readable, Blanks, Spells, SpellsAll, LineSpells, LinesSpell, no_lines, a_line, CardsSpelled, RecordSpelled, as_catalogue, as_header, as_data, Spelled, at_end_lem, a_record}
+use Rattle.read_records.specs.Spelled.{PlainByte, Readable, Blanks, Spells, SpellsAll, LineSpells, LinesSpell, no_lines, a_line, CardsSpelled, RecordSpelled, as_catalogue, as_header, as_data, Spelled, at_text_end, a_record}
 use Rattle.demands.proofs.Lines.{line_width}
 use Rattle.demands.proofs.Texts.{text_read}
 
@@ -220,7 +220,7 @@ record Standard (rs : List (List ℕ)) : Type 0 where
 
 standard_lines : (rs : List (List ℕ)) → All RecordOk rs → Standard rs
 unfolding lines_in text_of
-standard_lines [] h = record { lines = tt; spelled = at_end_lem }
+standard_lines [] h = record { lines = tt; spelled = at_text_end }
 standard_lines (r ∷ rs) h =
     let s = standard_lines rs h.1 in
     let cut = lines_cut (lines_of r) (text_of rs) (lines_plain r h.0) in

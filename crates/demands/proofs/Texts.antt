@@ -20,7 +20,7 @@ use Rattle.units.specs.Units.{Line}
 use Rattle.read_first_line.specs.FirstLine.{Shape, card, fields, gives}
 use Rattle.read_line.specs.Lines.{in_state, at_end, read_lines}
 use Rattle.read_records.specs.Reading.{read_text}
-use Rattle.read_records.specs.Spelled.{Readable, LineSpells, LinesSpell, a_line, RecordSpelled, as_catalogue, as_header, as_data, Spelled, at_end_lem, blank_line, a_record}
+use Rattle.read_records.specs.Spelled.{Readable, LineSpells, LinesSpell, a_line, RecordSpelled, as_catalogue, as_header, as_data, Spelled, at_text_end, blank_line, a_record}
 use Rattle.read_records.proofs.Opened.{plan_turn}
 use Rattle.demands.specs.Texts.{FieldsExactly, IsText, TextsExactly}
 use Rattle.demands.proofs.Back.{ahead, line_back, skip_back, joins, lines_back}
@@ -99,7 +99,7 @@ record_back (a ∷ (b ∷ ws)) num held ms ls h fits r s = record-read num held 
 spelled_back : {ls : List Line} {rs : List (List ℕ)} (num held : ℕ) → Spelled ls rs → All Readable ls → All RecordOk rs → held + length (joined rs) ≤ most_record_words → 1 ≤ held + length rs
     → read_lines num held [] ls ≡ passed (joined rs)
 unfolding read_lines at_end joined
-spelled_back num held at_end_lem r h fits some = simp (ne_eqb held 0 (λ e. omega arith))
+spelled_back num held at_text_end r h fits some = simp (ne_eqb held 0 (λ e. omega arith))
 spelled_back num held (blank_line {l} {ls} b s) r h fits some = skip_back num held l ls r.0 b ∙ spelled_back (suc num) held s r.1 h fits some
 spelled_back num held (a_record {r = q} {ms} {ls} {rs} k s) r h fits some =
     let l = length-append q (joined rs) in

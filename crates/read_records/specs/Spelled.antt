@@ -60,6 +60,6 @@ pub data RecordSpelled (r : List ℕ) : List Line → Type 0 where
 
 -- "Blank lines may stand before, between and after records"
 pub data Spelled : List Line → List (List ℕ) → Type 0 where
-  at_end_lem : Spelled [] []
+  at_text_end : Spelled [] []
   blank_line : {l : Line} {ls : List Line} {rs : List (List ℕ)} → Blanks l → Spelled ls rs → Spelled (l ∷ ls) rs
   a_record : {r : List ℕ} {ms ls : List Line} {rs : List (List ℕ)} → RecordSpelled r ms → Spelled ls rs → Spelled (ms ++ ls) (r ∷ rs)
