@@ -56,7 +56,7 @@ loop-at-smaller c = omega (arith, c.next_line-cut.ensures.onward, c.next_line-cu
 
 pub loop-at-preserved : goal.loop-at-preserved
 loop-at-preserved c = let r = c.read_line in
-    reading-on c.loop-at.invariant c.next_line-cut.ensures _ _ r.ensures.is c.in-Next.is c.if-text-gt65536.false r.kept.1.1.1.1.1.1.0 r.kept.1.1.1.1.1.0
+    reading-on c.loop-at.invariant c.next_line-cut.ensures _ _ r.ensures.is c.in-Next.is c.if-text-gt65536.false r.auto.block r.auto.row
 
 pub shape_of-block : goal.shape_of-block
 shape_of-block c = c.loop-at.invariant.length_kept

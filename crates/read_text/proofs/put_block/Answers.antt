@@ -3,13 +3,13 @@ use Rattle.read_text.proofs.Outcome.{HasWords, size_tells, words_most, block_sho
 use Rattle.read_text.proofs.put_block.Goals as goal
 
 pub block_size-needed-requires : goal.block_size-needed-requires
-block_size-needed-requires c = words_most _ _ ((let the_has_words : (HasWords c.args.text.now c.args.records.0) = size_tells c.args.text.now c.args.records.0 c.requires in the_has_words))
+block_size-needed-requires c = words_most _ _ (size_tells _ _ c.requires)
 
 pub returns-then-block-size : goal.returns-then-block-size
-returns-then-block-size c = block_short _ _ _ ((let the_has_words : (HasWords c.args.text.now c.args.records.0) = size_tells c.args.text.now c.args.records.0 c.requires in the_has_words)) c.block_size-needed.ensures c.if-block-size.true
+returns-then-block-size c = block_short _ _ _ (size_tells _ _ c.requires) c.block_size-needed.ensures c.if-block-size.true
 
 pub seal-requires : goal.seal-requires
-seal-requires c = (words_most _ _ ((let the_has_words : (HasWords c.args.text.now c.args.records.0) = size_tells c.args.text.now c.args.records.0 c.requires in the_has_words)), omega (arith, c.read.auto.block, c.if-block-size.false, c.block_size-needed.ensures))
+seal-requires c = (words_most _ _ (size_tells _ _ c.requires), omega (arith, c.read.auto.block, c.if-block-size.false, c.block_size-needed.ensures))
 
 pub returns : goal.returns
-returns c = block_built _ _ _ ((let the_has_words : (HasWords c.args.text.now c.args.records.0) = size_tells c.args.text.now c.args.records.0 c.requires in the_has_words)) c.block_size-needed.ensures _ c.read.result c.if-block-size.false c.read.ensures c.seal.ensures
+returns c = block_built _ _ _ (size_tells _ _ c.requires) c.block_size-needed.ensures _ c.read.result c.if-block-size.false c.read.ensures c.seal.ensures
