@@ -1,5 +1,6 @@
 // Blocks that stand one after the other in a slice: each is judged where it starts, by the words that it states.
 #![tactic(auto)]
+
 ghost use Rattle.std.specs.Prelude.{◌≡◌, ◌<◌, ◌≤◌, length};
 ghost use Rattle.words.specs.Words.{words_of, word};
 ghost use Rattle.block_slice.specs.Blocks.{wrong_first, judge_stated, judge_next};

@@ -1,5 +1,6 @@
 // Records packed into blocks, in their order: the current block, and which one the next record goes into.
 #![tactic(auto)]
+
 ghost use Rattle.std.specs.Prelude.{◌≡◌, ◌≤◌};
 ghost use Rattle.words.specs.Words.{most_record_words};
 ghost use Rattle.packing.specs.Current.{count_limit, sealed_bytes, room_for, with_record, bytes_to};

@@ -15,10 +15,10 @@ module _ (n : ℕ) (rest : List ℕ) {stated : ℕ} (more : length rest ≡ 1 �
   first-wrong : wrong_first stated ≡ true → refused (answer 1 0 0 0) ≡ judge_next n rest
   unfolding judge_next
   first-wrong w = simp (ne_eqb (length rest) 1 more, ← is, w)
+
   first_right : {v : Verdict ℕ} → wrong_first stated ≡ false → v ≡ judge_stated n stated rest → v ≡ judge_next n rest
   unfolding judge_next
   first_right w e = e ∙ simp (ne_eqb (length rest) 1 more, ← is, w)
-
 
 pub returns-then-rest-eq1 : goal.returns-then-rest-eq1
 unfolding judge_next

@@ -20,15 +20,16 @@ module _ (n stated : ℕ) (rest : List ℕ) {size : ℕ} (is : size ≡ bytes_of
   runs_past : length rest < size → refused (answer 51 n 0 0) ≡ judge_stated n stated rest
   unfolding judge_stated
   runs_past h = simp (lt-ltb (length rest) (bytes_of_words stated) (omega arith))
+
   -- what the judge says of these bytes
   module _ (h : size ≤ length rest) {j : Judged} (e : judged_of j ≡ judged (take size rest)) where
     its_own : {r : Refusal} → j ≡ Refused r → refused (refusal_of r) ≡ judge_stated n stated rest
     unfolding judge_stated
     its_own f = simp (le-ltb (length rest) (bytes_of_words stated) (omega arith), ← is, sym e ∙ ap judged_of f)
+
     passes : {k : ℕ} → j ≡ Records k → passed size ≡ judge_stated n stated rest
     unfolding judge_stated
     passes f = simp (le-ltb (length rest) (bytes_of_words stated) (omega arith), ← is, sym e ∙ ap judged_of f)
-
 
 pub returns-then-rest-end : goal.returns-then-rest-end
 returns-then-rest-end c = let a = c.args in

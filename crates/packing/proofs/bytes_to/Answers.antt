@@ -10,10 +10,10 @@ module _ (p : Current) where
   none_yet : p.used.0 ≡ 0 → p.start.0 ≡ bytes_to p
   unfolding bytes_to
   none_yet h = simp (eq-eqb p.used.0 0 h)
+
   with-last : (p.used.0 ≡ 0 → ⊥) → sealed_bytes p ≡ bytes_to p
   unfolding bytes_to
   with-last h = simp (ne_eqb p.used.0 0 h)
-
 
 pub returns-then-used-eq0 : goal.returns-then-used-eq0
 returns-then-used-eq0 c = none_yet _ (omega (arith, c.if-used-eq0.true))

@@ -12,10 +12,10 @@ module _ (p : Current) (k : ℕ) where
   room_here : p.used.0 + k ≤ most_record_words → p ≡ room_for p k
   unfolding room_for
   room_here h = simp (le-leb (p.used.0 + k) most_record_words h)
+
   room_next : {end : ℕ} → most_record_words < p.used.0 + k → end ≡ sealed_bytes p → current_at end 0 ≡ room_for p k
   unfolding room_for
   room_next h e = rw e (simp (lt-leb (p.used.0 + k) most_record_words h))
-
 
 pub returns-then-filled-le-MOST_RECORD_WORDS : goal.returns-then-filled-le-MOST_RECORD_WORDS
 returns-then-filled-le-MOST_RECORD_WORDS c = room_here _ c.args.k.0 (omega (arith, c.if-filled-le-MOST_RECORD_WORDS.true))
