@@ -40,9 +40,9 @@ die() {
     exit 2
 }
 
-# sum FILE..: of the files, and those in folders.
+# sum FILE..: of the files, and those in folders, but for what rt makes there.
 sum() {
-    (cd "$home" && find "$@" -type f -exec cksum {} + | LC_ALL=C sort | cksum)
+    (cd "$home" && find "$@" -name out -prune -o -type f -exec cksum {} + | LC_ALL=C sort | cksum)
 }
 
 # is_built PROGRAM: from the crates as they are now. Their times would not tell: a copy of them has new ones.
@@ -51,34 +51,40 @@ is_built() {
         [ "$(sum crates crates.txt) $(sum "target/bin/$1")" = "$(cat "$notes/$1.sums")" ]
 }
 
-# can_write: all of target/. Where rt cannot, it says of changed crates what it said of the old ones.
+# can_write: all of target/, and where rt makes things.
 can_write() {
-    mkdir -p "$notes" 2>/dev/null && [ -z "$(find "$home/target" ! -writable 2>&1)" ]
+    mkdir -p "$notes" 2>/dev/null &&
+        [ -z "$(cd "$home" && find target crates -regex 'crates/[^/]*/[^/]*' ! -name out -prune -o ! -writable -print 2>&1)" ]
 }
 
-# prove PROGRAM: also compiles it. One call at a time: two in a pipe may both have to.
+# prove PROGRAM: also compiles it, and runs it on nothing. One call at a time: two in a pipe may both have to.
 prove() {
-    (flock 9 && cd "$home" && rt check "$1" >"$notes/$1.log" 2>&1) 9>"$notes/lock" && return
+    (flock 9 && cd "$home/crates/$1" && rt run </dev/null >"$notes/$1.log" 2>&1) 9>"$notes/lock" && return
     tail -n 20 "$notes/$1.log" >&2
     return 1
+}
+
+# take PROGRAM: to where it stays whatever rt does in its crate.
+take() {
+    mkdir -p "$home/target/bin" && cp --remove-destination "$home/crates/$1/out/$1" "$home/target/bin/" 2>/dev/null
 }
 
 # build PROGRAM: unless that is done.
 build() {
     is_built "$1" && return
     command -v rt >/dev/null || die "the Rattle kit's rt is needed to build $1"
-    can_write || die "$1 is still to be built, by a call of somebody who may write to $home/target"
+    can_write || die "$1 is still to be built, by a call of somebody who may write to $home/target and $home/crates"
     crates=$(sum crates crates.txt)
     say "proving and building $1, which may take some minutes"
     prove "$1" || die "$1 cannot be built; $notes/$1.log says all"
-    [ -x "$home/target/bin/$1" ] || die "$1 is proved but gone; remove $home/target and try again"
+    take "$1" || die "$1 is proved but gone; remove $home/crates/$1/out and try again"
     echo "$crates $(sum "target/bin/$1")" >"$notes/$1.sums"
 }
 
 # find_tools: programs are for x86-64; on another machine the kit's emulator and C library run them.
 find_tools() {
     tools=
-    [ "$(uname -m)" = x86_64 ] || tools=$(dirname "$(dirname "$(rt doc)")")/on/$(uname -m)/toolchain
+    [ "$(uname -m)" = x86_64 ] || tools=$(dirname "$(rt doc)")/on/$(uname -m)/toolchain
 }
 
 # run PROGRAM

@@ -54,7 +54,8 @@ aarch64)
     # The archive links only into x86-64 programs, and the emulator finds no shared libraries for them.
     compiler=x86_64-linux-gnu-gcc link=-static
     guide=$(rt doc) || die "rt of the Rattle kit is needed"
-    emulator=$(dirname "$(dirname "$guide")")/on/$machine/toolchain/bin/qemu-x86_64
+    emulator=$(dirname "$guide")/on/$machine/toolchain/bin/qemu-x86_64
+    [ -x "$emulator" ] || die "a kit with an emulator for $machine is needed"
     need can_compile gcc-x86-64-linux-gnu libc6-dev-amd64-cross
     ;;
 *)
@@ -62,7 +63,13 @@ aarch64)
     ;;
 esac
 
+# is_new: newer than all that it is made of.
+is_new() {
+    [ -f "$1" ] && [ -z "$(find crates crates.txt -name out -prune -o -newer "$1" -print)" ]
+}
+
 archive=target/staticlib/libcedar.a
-if [ ! -f "$archive" ] || [ -n "$(find crates crates.txt -newer "$archive")" ]; then
-    rt staticlib cedar >&2 || die "libcedar.a cannot be built"
+if ! is_new "$archive"; then
+    (cd crates/cedar_c && rt lib) >&2 || die "libcedar.a cannot be built"
+    mkdir -p target/staticlib && cp crates/cedar_c/out/libcedar_c.a "$archive" || die "$archive cannot be written"
 fi
