@@ -11,7 +11,7 @@ use Rattle.repacking.proofs.count_records.Goals as goal
 
 pub loop-to-init : goal.loop-to-init
 loop-to-init c = let b = c.args.block.now in
-    loop_start b (all_below 256 b (λ i. omega (arith, c.slice_known-1.given i))) c.requires.0 (record { same = refl; can = c.requires.1 })
+    loop_start b (all_below 256 b (λ i. omega (arith, c.type_inv.block i))) c.requires.0 (record { same = refl; can = c.requires.1 })
 
 pub returns-then-n-eq0 : goal.returns-then-n-eq0
 unfolding current_after

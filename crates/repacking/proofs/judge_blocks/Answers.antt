@@ -1,7 +1,7 @@
 use mathlib.Core.Path.{sym, ap}
 use Prim.Native.Nat.{◌+◌}
 use native.Mathlib.Omega.{arith}
-use lib.ListN.{length-drop}
+use lib.ListN.{length, length-drop}
 use lib.Seq.{length-take-le}
 use Rattle.words.proofs.Laws.{all_below}
 use Rattle.block_slice.specs.Cases.{measured_of}
@@ -10,7 +10,7 @@ use Rattle.repacking.proofs.judge_blocks.Goals as goal
 
 again : (c : goal.After-count_records-current) → Judging c.args.slice.now (c.loop-at.at + c.in-Size.size.0) (c.loop-at.number + 1) c.count_records-current.result
 again c = let b = c.args.slice.now in let at = c.loop-at.at in
-    judged-on c.loop-at.invariant (rest_is b at) c.loop-at-test.true c.judge_next.ensures (ap measured_of c.in-Size.is) (rest_bytes b at (all_below 256 b (λ i. omega (arith, c.slice_known-1.given i)))) c.requires c.count_records-current.ensures
+    judged-on c.loop-at.invariant (rest_is b at) c.loop-at-test.true c.judge_next.ensures (ap measured_of c.in-Size.is) (rest_bytes b at (all_below 256 b (λ i. omega (arith, c.type_inv.slice i)))) c.requires c.count_records-current.ensures
 
 pub loop-at-init : goal.loop-at-init
 loop-at-init c = judging_start c.args.slice.now
@@ -28,7 +28,7 @@ slice_bounds-count_records-end c =
 pub count_records-current-requires : goal.count_records-current-requires
 count_records-current-requires c = let b = c.args.slice.now in let at = c.loop-at.at in
     ((first c.loop-at.invariant (rest_is b at) c.loop-at-test.true c.judge_next.ensures (ap measured_of c.in-Size.is)).good,
-    countable c.loop-at.invariant (rest_is b at) c.loop-at-test.true c.judge_next.ensures (ap measured_of c.in-Size.is) (rest_bytes b at (all_below 256 b (λ i. omega (arith, c.slice_known-1.given i)))) c.requires)
+    countable c.loop-at.invariant (rest_is b at) c.loop-at-test.true c.judge_next.ensures (ap measured_of c.in-Size.is) (rest_bytes b at (all_below 256 b (λ i. omega (arith, c.type_inv.slice i)))) c.requires)
 
 pub overflow_add-at : goal.overflow_add-at
 overflow_add-at c = omega (arith, (again c).within, c.requires)
