@@ -122,7 +122,7 @@ open() {
     fi
 }
 
-# copy COMMAND..: what the command reads of the file. The programs cannot tell a file that ends from one that cannot be read.
+# copy COMMAND..: what the command reads of the file; it says why a file cannot be read.
 copy() {
     # A shell that waits hears a signal at once.
     "$@" <&3 >>"$work/in" 2>"$work/why" &
@@ -131,7 +131,7 @@ copy() {
     copying=
 }
 
-# answer PROGRAM INPUT OUTPUT: what it writes. It cannot tell whether all was written, as cat can.
+# answer PROGRAM INPUT OUTPUT: what it writes, through cat, which tells a file that cannot be written from a program that fails.
 answer() {
     { run "$1" <"$2" || : >"$work/failed"; } | cat >"$3" || die "$3 cannot be written"
     [ ! -e "$work/failed" ] || die "$name: $1 did not run"

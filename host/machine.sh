@@ -63,13 +63,5 @@ aarch64)
     ;;
 esac
 
-# is_new: newer than all that it is made of.
-is_new() {
-    [ -f "$1" ] && [ -z "$(find crates crates.txt -name out -prune -o -newer "$1" -print)" ]
-}
-
 archive=target/staticlib/libcedar.a
-if ! is_new "$archive"; then
-    (cd crates/cedar_c && rt lib) >&2 || die "libcedar.a cannot be built"
-    mkdir -p target/staticlib && cp crates/cedar_c/out/libcedar_c.a "$archive" || die "$archive cannot be written"
-fi
+host/library || die "libcedar.a cannot be built"
