@@ -6,8 +6,8 @@ use Rattle.read_first_line.proofs.counts_in.Goals as goal
 
 pub returns-then-right-lt4 : goal.returns-then-right-lt4
 returns-then-right-lt4 c = let a = c.args in
-    rw (counts_is a.num.0 a.row.now) (simp ((let the_right_is : (in_range (counts_of c.args.row.now) ≡ c.in_range-right.result) = sym (c.in_range-right.ensures ∙ ap in_range c.row_Counts.ensures) in the_right_is), lt-ltb _ _ c.if-right-lt4.true, c.column_of.ensures))
+    rw (counts_is a.num.0 a.row.now) (simp ((let the_right_is : (in_range (counts_of c.args.row.now) ≡ c.in_range-right.result) = sym (c.in_range-right.ensures ∙ ap in_range c.row_counts.ensures) in the_right_is), lt-ltb _ _ c.if-right-lt4.true, c.column_of.ensures))
 
 pub returns : goal.returns
 returns c = let a = c.args in
-    rw (counts_is a.num.0 a.row.now) (simp ((let the_right_is : (in_range (counts_of c.args.row.now) ≡ c.in_range-right.result) = sym (c.in_range-right.ensures ∙ ap in_range c.row_Counts.ensures) in the_right_is), le-ltb _ _ c.if-right-lt4.false))
+    rw (counts_is a.num.0 a.row.now) (simp ((let the_right_is : (in_range (counts_of c.args.row.now) ≡ c.in_range-right.result) = sym (c.in_range-right.ensures ∙ ap in_range c.row_counts.ensures) in the_right_is), le-ltb _ _ c.if-right-lt4.false))
