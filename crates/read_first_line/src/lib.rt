@@ -1,5 +1,6 @@
 // Reads a record's first line, which says what is to come of the record, and puts its words into a block as far as that has room.
 #![tactic(auto)]
+
 ghost use Rattle.std.specs.Prelude.{◌≡◌, ◌∷◌, ◌++◌, map, ◌-◌, ◌≤◌, ◌<◌, min, length, get_or, take, drop, replicate};
 ghost use Rattle.std.proofs.Math.Seq.{slice};
 ghost use Rattle.words.specs.Words.{most_record_words};

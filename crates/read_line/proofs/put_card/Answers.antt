@@ -15,7 +15,7 @@ slice_bounds-store_bytes-end c = sym (length-take-le 80 c.args.line.now c.if-lin
 pub returns-then-line-ge80 : goal.returns-then-line-ge80
 returns-then-line-ge80 c = let a = c.args in let l = a.line.now in
     let below : Below 256 l = all_below 256 l (λ i. omega (arith, c.type_inv.line i)) in
-    c.store_Bytes.ensures ∙ rw (c.bytes_of_words-at.ensures, card_columns l below, long_card l c.if-line-ge80.true)
+    c.store_bytes.ensures ∙ rw (c.bytes_of_words-at.ensures, card_columns l below, long_card l c.if-line-ge80.true)
 
 pub returns : goal.returns
 returns c = let a = c.args in let l = a.line.now in
