@@ -1,5 +1,6 @@
 // Table 3 of the format: the three letters of an instrument's code, found by a binary search.
 #![tactic(auto)]
+
 ghost use Rattle.std.specs.Prelude.{◌≡◌, true, ◌<◌, get_or};
 ghost use Rattle.prefix.specs.Rising.{rises};
 ghost use Rattle.prefix.specs.LookUp.{place_in};

@@ -1,5 +1,6 @@
 // Text put into a lent slice: numbers in decimal, and the line that says a refusal.
 #![tactic(auto)]
+
 ghost use Rattle.std.specs.Prelude.{[], ◌∷◌, ◌+◌, ◌<◌};
 ghost use Rattle.words.specs.Writing.{Room, Put};
 ghost use Rattle.report.specs.Decimal.{decimal_of, spaced};

@@ -1,4 +1,3 @@
-use Prim.Native.Nat.{◌-◌}
 use Rattle.prefix.proofs.Search.{anywhere, nowhere, found, too-low, too-high}
 use Rattle.prefix.proofs.place_in.Goals as goal
 

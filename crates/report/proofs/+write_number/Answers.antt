@@ -1,11 +1,11 @@
 use Rattle.report.proofs.Digits.{one_digit, more_digits}
 use Rattle.report.specs.Decimal.{decimal_of}
-use Rattle.words.proofs.Writing.{Going, start, fits, on, done}
+use Rattle.words.proofs.Writing.{start, fits, on, done}
 use lib.ListN.{length}
 use native.Mathlib.Omega.{arith}
-use mathlib.Core.List.{[], ◌∷◌, ◌++◌}
-use mathlib.Core.Path.{◌≡◌, refl, ap}
-use Prim.Native.Nat.{ℕ, ◌+◌, ◌/◌, ◌%◌, ◌<◌, ◌≤◌, ◌^◌}
+use mathlib.Core.List.{[], ◌∷◌}
+use mathlib.Core.Path.{refl, ap}
+use Prim.Native.Nat.{◌+◌, ◌/◌, ◌%◌}
 use Rattle.report.proofs.+write_number.Goals as goal
 
 pub write_digit-requires : goal.write_digit-requires
