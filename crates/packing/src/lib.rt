@@ -26,6 +26,7 @@ fn sealed_bytes(current: Current) -> Bytes
 }
 
 // The block that a record of `k` words goes into: the current one if it fits, else a new one.
+#[tactic(auto, unfolding(crate::specs::Current::room_for))]
 pub fn room_for(current: Current, k: Words) -> Current
     requires { (current.used.0 ≤ most_record_words) × (k.0 ≤ most_record_words) × (current.start.0 ≤ count_limit) }
     ensures { result ≡ room_for current k.0 }
@@ -56,6 +57,7 @@ pub fn with_record(current: Current, k: Words) -> Current
 }
 
 // The bytes of all blocks so far; a current block without a record has none.
+#[tactic(auto, unfolding(crate::specs::Current::bytes_to))]
 pub fn bytes_to(current: Current) -> Bytes
     requires { (current.used.0 ≤ most_record_words) × (current.start.0 ≤ count_limit) }
     ensures { result.0 ≡ bytes_to current }
