@@ -1,5 +1,6 @@
 // Amend and undo: a value of a block, and the last entry of its sheet.
 #![tactic(auto)]
+
 ghost use Rattle.std.specs.Prelude.{◌≡◌, ◌<◌};
 ghost use Rattle.units.specs.Answers.{answered, onward};
 ghost use Rattle.block.specs.Judging.{judged};

@@ -1,5 +1,6 @@
 // A value of a block: where it stands, and another put in its place, the checksum patched.
 #![tactic(auto)]
+
 ghost use Rattle.std.specs.Prelude.{◌≡◌, ◌+◌, ◌≤◌, ◌<◌, length};
 ghost use Rattle.words.specs.Words.{words_of, Below, most_words};
 ghost use Rattle.record.specs.Rules.{RecordOk};

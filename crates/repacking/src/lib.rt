@@ -1,5 +1,6 @@
 // Blocks one after the other, packed again: their records in their order, in as few blocks as hold them.
 #![tactic(auto)]
+
 ghost use Rattle.std.specs.Prelude.{◌≡◌, [], ◌∷◌, ◌<◌, ◌≤◌, ◌^◌, length};
 ghost use Rattle.std.proofs.lemmas.List.Edits.{sets};
 ghost use Rattle.words.specs.Words.{words_of, bytes_of, most_record_words, block_from};

@@ -26,9 +26,10 @@ slice_bounds-count_records-end c =
     sym (length-take-le _ _ (first c.loop-at.invariant (rest_is c.args.slice.now c.loop-at.at) c.loop-at-test.true c.judge_next.ensures (ap measured_of c.in-Size.is)).room)
 
 pub count_records-current-requires : goal.count_records-current-requires
-count_records-current-requires c = let b = c.args.slice.now in let at = c.loop-at.at in
-    ((first c.loop-at.invariant (rest_is b at) c.loop-at-test.true c.judge_next.ensures (ap measured_of c.in-Size.is)).good,
-    countable c.loop-at.invariant (rest_is b at) c.loop-at-test.true c.judge_next.ensures (ap measured_of c.in-Size.is) (rest_bytes b at (all_below 256 b (λ i. omega (arith, c.type_inv.slice i)))) c.requires)
+count_records-current-requires c = let b = c.args.slice.now in let at = c.loop-at.at in (
+  (first c.loop-at.invariant (rest_is b at) c.loop-at-test.true c.judge_next.ensures (ap measured_of c.in-Size.is)).good,
+  countable c.loop-at.invariant (rest_is b at) c.loop-at-test.true c.judge_next.ensures (ap measured_of c.in-Size.is) (rest_bytes b at (all_below 256 b (λ i. omega (arith, c.type_inv.slice i)))) c.requires,
+)
 
 pub overflow_add-at : goal.overflow_add-at
 overflow_add-at c = omega (arith, (again c).within, c.requires)
