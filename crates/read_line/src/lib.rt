@@ -1,5 +1,6 @@
 // Reads a line of a text, by what is to come of a record, and puts its words into a block as far as that has room.
 #![tactic(auto)]
+
 ghost use Rattle.std.specs.Prelude.{◌≡◌, [], ◌∷◌, ◌≤◌, ◌<◌, min, length, take};
 ghost use Rattle.words.specs.Words.{words_of, most_record_words};
 ghost use Rattle.words.specs.Scans.{plain_in};
