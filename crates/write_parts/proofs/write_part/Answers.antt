@@ -8,33 +8,46 @@ use lib.ListN.{take, drop}
 use native.Mathlib.Omega.{arith}
 use mathlib.Core.List.{List, [], ◌∷◌, ◌++◌}
 use mathlib.Core.Path.{◌≡◌}
-use Prim.Native.Nat.{ℕ, ◌+◌, ◌-◌, ◌≤◌, ◌<◌}
+use Prim.Native.Nat.{ℕ, ◌+◌, ◌-◌, ◌≤◌, ◌<◌, min}
 use Rattle.write_parts.proofs.write_part.Goals as goal
 
--- the next line, and the others
-abbrev line : tie.After-on-line invariant-loop decreases-loop → List ℕ
-line c = fields_of (take c.on_line.result.0 (drop c.before.before.loop.place (words_of (start-before-loop c.before.before).args.whole.now))) ++ (10 ∷ [])
+-- the next line of n fields, and the others
+abbrev line : List ℕ → ℕ → ℕ → List ℕ
+line ws place n = fields_of (take n (drop place ws)) ++ (10 ∷ [])
 
-abbrev others : tie.After-on-line invariant-loop decreases-loop → List ℕ
-others c = let n = c.on_line.result.0 in ended (laid (part (c.before.before.loop.left - n)) (drop (c.before.before.loop.place + n) (words_of (start-before-loop c.before.before).args.whole.now)))
+abbrev others : List ℕ → ℕ → ℕ → ℕ → List ℕ
+others ws place left n = ended (laid (part (left - n)) (drop (place + n) ws))
+
+turn : (ws : List ℕ) (place left n : ℕ) → 0 < left → n ≡ min left 20 → ended (laid (part left) (drop place ws)) ≡ line ws place n ++ others ws place left n
+turn ws place left n h e = rw e (part-line ws place left h)
+
+-- a line has a field, and no more than are left
+some : (left n : ℕ) → 0 < left → n ≡ min left 20 → (0 < n) × (n ≤ left)
+some left n h e = (omega arith, omega arith)
 
 pub loop-left-init : goal.loop-left-init
 loop-left-init c = (c.requires.0, start)
 
 pub write_line-to-requires : goal.write_line-to-requires
-write_line-to-requires c = let m = (let the_some : ((0 < c.on_line-n.result.0) × (c.on_line-n.result.0 ≤ c.loop-left.left)) = let e = c.on_line-n.ensures in (omega arith, omega arith) in the_some) in (omega arith, fits c.loop-left.invariant.1 (line c) (others c) ((let the_turn : (ended (laid (part c.loop-left.left) (drop c.loop-left.place (words_of c.args.whole.now))) ≡ line c ++ others c) = let l = c.loop-left in rw c.on_line-n.ensures (part-line (words_of c.args.whole.now) l.place l.left (omega arith)) in the_turn)) c.requires.1)
+write_line-to-requires c = let l = c.loop-left in
+    let ws = words_of c.args.whole.now in
+    let n = c.on_line-n.result.0 in
+    let m = some l.left n (omega arith) c.on_line-n.ensures in
+    (omega arith, fits l.invariant.1 (line ws l.place n) (others ws l.place l.left n) (turn ws l.place l.left n (omega arith) c.on_line-n.ensures) c.requires.1)
 
 pub overflow_add-place : goal.overflow_add-place
-overflow_add-place c = let m = (let the_some : ((0 < c.on_line-n.result.0) × (c.on_line-n.result.0 ≤ c.loop-left.left)) = let e = c.on_line-n.ensures in (omega arith, omega arith) in the_some) in omega (arith, length_words_of c.args.whole.now)
+overflow_add-place c = let m = some c.loop-left.left c.on_line-n.result.0 (omega arith) c.on_line-n.ensures in omega (arith, length_words_of c.args.whole.now)
 
 pub overflow_sub-left : goal.overflow_sub-left
-overflow_sub-left c = let m = (let the_some : ((0 < c.on_line-n.result.0) × (c.on_line-n.result.0 ≤ c.loop-left.left)) = let e = c.on_line-n.ensures in (omega arith, omega arith) in the_some) in omega arith
+overflow_sub-left c = let m = some c.loop-left.left c.on_line-n.result.0 (omega arith) c.on_line-n.ensures in omega arith
 
 pub loop-left-smaller : goal.loop-left-smaller
-loop-left-smaller c = let m = (let the_some : ((0 < c.on_line-n.result.0) × (c.on_line-n.result.0 ≤ c.loop-left.left)) = let e = c.on_line-n.ensures in (omega arith, omega arith) in the_some) in omega arith
+loop-left-smaller c = let m = some c.loop-left.left c.on_line-n.result.0 (omega arith) c.on_line-n.ensures in omega arith
 
 pub loop-left-preserved : goal.loop-left-preserved
-loop-left-preserved c = let m = (let the_some : ((0 < c.on_line-n.result.0) × (c.on_line-n.result.0 ≤ c.loop-left.left)) = let e = c.on_line-n.ensures in (omega arith, omega arith) in the_some) in (omega arith, on c.loop-left.invariant.1 _ _ ((let the_turn : (ended (laid (part c.loop-left.left) (drop c.loop-left.place (words_of c.args.whole.now))) ≡ line c ++ others c) = let l = c.loop-left in rw c.on_line-n.ensures (part-line (words_of c.args.whole.now) l.place l.left (omega arith)) in the_turn)) c.write_line-to.ensures)
+loop-left-preserved c = let l = c.loop-left in
+    let m = some l.left c.on_line-n.result.0 (omega arith) c.on_line-n.ensures in
+    (omega arith, on l.invariant.1 _ _ (turn (words_of c.args.whole.now) l.place l.left _ (omega arith) c.on_line-n.ensures) c.write_line-to.ensures)
 
 pub shape_of-out : goal.shape_of-out
 shape_of-out c = c.loop-left.invariant.1.kept
