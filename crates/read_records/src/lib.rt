@@ -1,5 +1,6 @@
 // The record words of a text. The same loop judges and writes: into a block of no bytes nothing is written.
 #![tactic(auto)]
+
 ghost use Rattle.std.specs.Prelude.{◌≡◌};
 ghost use Rattle.read_first_line.specs.State.{to_come};
 ghost use Rattle.read_records.specs.Content.{stored, stored_of, Ended};

@@ -1,7 +1,6 @@
 use Rattle.read_records.proofs.Loop.{reading-refused, reading-on}
 use mathlib.Core.Path.{◌≡◌, refl, sym, ap, ◌∙◌}
 use mathlib.Core.List.{List, []}
-use Prim.Native.Nat.{◌-◌}
 use native.Mathlib.Omega.{arith}
 use lib.ListN.{length, drop_of_length-le}
 use Rattle.read_cut.specs.Lines.{lines_in}
