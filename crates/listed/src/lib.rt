@@ -1,5 +1,6 @@
 // What the listing program prints: a line for each record of a block, or the line of a refusal.
 #![tactic(auto)]
+
 ghost use Rattle.std.specs.Prelude.{[], ◌∷◌, ◌<◌};
 ghost use Rattle.words.specs.Words.{words_of, most_words};
 ghost use Rattle.words.specs.Writing.{Room, Put};

@@ -1,21 +1,12 @@
-use Prim.Native.Nat.{ℕ, ◌-◌, ◌≤◌}
 use mathlib.Core.Path.{refl}
-use mathlib.Core.List.{List}
 use native.Mathlib.Omega.{arith}
 use Rattle.words.specs.Words.{words_of}
 use Rattle.words.proofs.Laws.{all_below}
-use Rattle.words.proofs.Writing.{Going, start, fits, on, done}
-use Rattle.block.specs.Records.{records_of}
-use Rattle.block_steps.proofs.Loops.{Turn, loop_start, turn, loop_on, loop_end}
+use Rattle.words.proofs.Writing.{start, fits, on, done}
+use Rattle.block_steps.proofs.Loops.{loop_start, turn, loop_on, loop_end}
 use Rattle.listed.specs.Listing.{row_of, rows_of}
 use Rattle.listed.proofs.Rows.{rows_on}
 use Rattle.listed.proofs.write_listing.Goals as goal
-
--- the lines of the records that are left are still to be put
-record : List ℕ) (at number to : ℕ) (rs : List (List ℕ)) : Type 0 where
-  few : number ≤ at
-  going : Going before 0 (rows_of 1 1 (records_of block)) out to (rows_of number at rs)
-
 
 pub loop-whole-init : goal.loop-whole-init
 loop-whole-init c = let b = c.args.block.now in
@@ -28,19 +19,20 @@ pub returns-then-n-eq0 : goal.returns-then-n-eq0
 unfolding rows_of
 returns-then-n-eq0 c = done (loop_end c.loop-whole.invariant c.record_at-whole.ensures c.count-n.ensures c.if-n-eq0.true).going refl
 
+-- the first record that is left
 pub write_row-to-requires : goal.write_row-to-requires
-write_row-to-requires c = let t = (let the_found : (Turn c.loop-whole.invariant c.record_at-whole.result.now c.count-n.result.0) = turn c.loop-whole.invariant c.record_at-whole.ensures c.count-n.ensures c.if-n-eq0.false in the_found) in let l = c.loop-whole in
+write_row-to-requires c = let t = turn c.loop-whole.invariant c.record_at-whole.ensures c.count-n.ensures c.if-n-eq0.false in let l = c.loop-whole in
     (omega (arith, t), t.good, fits t.holds.going (row_of l.number l.at (words_of c.record_at-whole.result.now)) _ (rows_on _ _ _ _ t.others t.size) c.requires.1)
 
 pub overflow_add-at : goal.overflow_add-at
-overflow_add-at c = omega (arith, (let the_found : (Turn c.loop-whole.invariant c.record_at-whole.result.now c.count-n.result.0) = turn c.loop-whole.invariant c.record_at-whole.ensures c.count-n.ensures c.if-n-eq0.false in the_found))
+overflow_add-at c = omega (arith, turn c.loop-whole.invariant c.record_at-whole.ensures c.count-n.ensures c.if-n-eq0.false)
 
 pub overflow_add-number : goal.overflow_add-number
-overflow_add-number c = omega (arith, (let the_found : (Turn c.loop-whole.invariant c.record_at-whole.result.now c.count-n.result.0) = turn c.loop-whole.invariant c.record_at-whole.ensures c.count-n.ensures c.if-n-eq0.false in the_found))
+overflow_add-number c = omega (arith, turn c.loop-whole.invariant c.record_at-whole.ensures c.count-n.ensures c.if-n-eq0.false)
 
 pub loop-whole-smaller : goal.loop-whole-smaller
-loop-whole-smaller c = omega (arith, (let the_found : (Turn c.loop-whole.invariant c.record_at-whole.result.now c.count-n.result.0) = turn c.loop-whole.invariant c.record_at-whole.ensures c.count-n.ensures c.if-n-eq0.false in the_found))
+loop-whole-smaller c = omega (arith, turn c.loop-whole.invariant c.record_at-whole.ensures c.count-n.ensures c.if-n-eq0.false)
 
 pub loop-whole-preserved : goal.loop-whole-preserved
-loop-whole-preserved c = let t = (let the_found : (Turn c.loop-whole.invariant c.record_at-whole.result.now c.count-n.result.0) = turn c.loop-whole.invariant c.record_at-whole.ensures c.count-n.ensures c.if-n-eq0.false in the_found) in
+loop-whole-preserved c = let t = turn c.loop-whole.invariant c.record_at-whole.ensures c.count-n.ensures c.if-n-eq0.false in
     loop_on t (record { few = omega (arith, t.long, t.holds.few); going = on t.holds.going _ _ (rows_on _ _ _ _ _ t.size) c.write_row-to.ensures })

@@ -1,11 +1,8 @@
-use Prim.Native.Nat.{◌-◌}
 use mathlib.Core.Path.{refl, sym, ap}
 use mathlib.Core.List.{[], ◌∷◌, append-nil}
 use native.Mathlib.Omega.{arith}
 use lib.ListN.{length}
-use Rattle.words.proofs.Writing.{Going, start, fits, on, done}
-use Rattle.report.specs.Decimal.{decimal_of}
-use Rattle.listed.specs.Listing.{signed_of}
+use Rattle.words.proofs.Writing.{start, fits, on, done}
 use Rattle.listed.proofs.Rows.{signed_plain, signed_below}
 use Rattle.listed.proofs.write_signed.Goals as goal
 
@@ -18,11 +15,13 @@ returns-then-value-lt32768 c = rw (signed_plain c.args.w (omega arith)) c.write_
 pub write_bytes-to-requires : goal.write_bytes-to-requires
 write_bytes-to-requires c = fits {o = c.args.out.now} start (45 ∷ []) _ (signed_below c.args.w (omega arith)) c.requires
 
+-- the minus is in, and the digits are left
 pub write_number-requires-2 : goal.write_number-requires-2
-write_number-requires-2 c = omega (arith, ((let the_left : (let a = c.args in
-    Going a.out.now a.at.0 (signed_of a.w) c.write_bytes-to.new.out c.write_bytes-to.result.0 (decimal_of (65536 - a.w))) = on start (45 ∷ []) _ (signed_below c.args.w (omega arith)) c.write_bytes-to.ensures in the_left)).total, ((let the_left : (let a = c.args in
-    Going a.out.now a.at.0 (signed_of a.w) c.write_bytes-to.new.out c.write_bytes-to.result.0 (decimal_of (65536 - a.w))) = on start (45 ∷ []) _ (signed_below c.args.w (omega arith)) c.write_bytes-to.ensures in the_left)).kept, c.requires)
+write_number-requires-2 c =
+    let left = on start (45 ∷ []) _ (signed_below c.args.w (omega arith)) c.write_bytes-to.ensures in
+    omega (arith, left.total, left.kept, c.requires)
 
 pub returns : goal.returns
-returns c = done (on ((let the_left : (let a = c.args in
-    Going a.out.now a.at.0 (signed_of a.w) c.write_bytes-to.new.out c.write_bytes-to.result.0 (decimal_of (65536 - a.w))) = on start (45 ∷ []) _ (signed_below c.args.w (omega arith)) c.write_bytes-to.ensures in the_left)) _ [] (sym (append-nil _)) c.write_number-2.ensures) refl
+returns c =
+    let left = on start (45 ∷ []) _ (signed_below c.args.w (omega arith)) c.write_bytes-to.ensures in
+    done (on left _ [] (sym (append-nil _)) c.write_number-2.ensures) refl
