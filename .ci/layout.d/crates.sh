@@ -42,7 +42,7 @@ crates_told() {
 crates_named() {
     find crates \( -name '*.rt' -o -name '*.antt' \) -exec awk '
         function named(other) {
-            if (other != path[2] && other !~ /^(std|[iu](8|16|32|64|128|size))$/ && !(other in of_std)) print path[2], other
+            if (other != path[2] && other !~ /^(crate|self|super|std|[iu](8|16|32|64|128|size))$/ && !(other in of_std)) print path[2], other
         }
         FNR == 1 { split(FILENAME, path, "/"); code = FILENAME ~ /\.rt$/; split("", of_std) }
         { sub(code ? "//.*" : "(^| )-- .*", "") }
