@@ -1,5 +1,6 @@
 // Lines to block, in two calls: one judges the lines and tells the size of their block, one judges them again and writes it.
 #![tactic(auto)]
+
 ghost use Rattle.std.specs.Prelude.{◌≡◌, ◌+◌, ◌≤◌, ◌<◌, ◌^◌};
 ghost use Rattle.units.specs.Answers.{passed, answered, fitted};
 ghost use Rattle.units.specs.Units.{bytes_of_words};

@@ -1,4 +1,3 @@
-
 use Rattle.read_text.proofs.built_numbers.Goals as goal
 
 pub returns-in-Block : goal.returns-in-Block

@@ -1,5 +1,5 @@
 use Rattle.read_text.proofs.Known.{lines_promised}
-use Rattle.read_text.proofs.Outcome.{HasWords, words_read, flaw_read, words_most, size_judged, refusal_judged}
+use Rattle.read_text.proofs.Outcome.{words_read, flaw_read, words_most, size_judged, refusal_judged}
 use Rattle.read_text.proofs.judge_lines.Goals as goal
 
 pub block_size-size-requires : goal.block_size-size-requires

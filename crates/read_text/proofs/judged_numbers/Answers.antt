@@ -1,4 +1,3 @@
-
 use Rattle.read_text.proofs.judged_numbers.Goals as goal
 
 pub returns-in-Size : goal.returns-in-Size

@@ -1,5 +1,5 @@
 use native.Mathlib.Omega.{arith}
-use Rattle.read_text.proofs.Outcome.{HasWords, size_tells, words_most, block_short, block_built}
+use Rattle.read_text.proofs.Outcome.{size_tells, words_most, block_short, block_built}
 use Rattle.read_text.proofs.put_block.Goals as goal
 
 pub block_size-needed-requires : goal.block_size-needed-requires
