@@ -201,3 +201,13 @@ pub text_bound : (b : List ℕ) → Below 256 b → Accepted b → length (text_
 text_bound b h a =
     let g = (only_good b a.count h a.is).0 in
     omega (arith, text_size_most (records_of b) g.each g.some, g.most)
+
+-- the bytes so far, and those of the records that are left
+pub record Counted (block : List ℕ) (bytes : ℕ) (rs : List (List ℕ)) : Type 0 where
+  pub total : bytes + length (text_of rs) ≡ length (text_of (records_of block))
+  pub most : length (text_of (records_of block)) ≤ 55971
+
+-- a record's bytes more
+pub counted : {block r : List ℕ} {bytes n : ℕ} {rs : List (List ℕ)} → Counted block bytes (r ∷ rs) → n ≡ length (ended (lines_of r)) → Counted block (bytes + n) rs
+unfolding text_of
+counted {r = r} {rs = rs} g e = record { total = omega (arith, g.total, e, length-append (ended (lines_of r)) (text_of rs)); most = g.most }

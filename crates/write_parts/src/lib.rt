@@ -1,5 +1,6 @@
 // Words laid out in lines of fields and in cards, written straight into the lent text.
 #![tactic(auto)]
+
 ghost use Rattle.std.specs.Prelude.{[], ◌∷◌, ◌++◌, ◌+◌, ◌*◌, ◌≤◌, length, take, drop};
 ghost use Rattle.units.specs.Units.{words_of_cards};
 ghost use Rattle.words.specs.Words.{words_of};

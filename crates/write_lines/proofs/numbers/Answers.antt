@@ -5,20 +5,15 @@ use Rattle.units.specs.Answers.{fitted}
 use Rattle.units.proofs.Packing.{fitted_is}
 use Rattle.write_lines.proofs.numbers.Goals as goal
 
-pub enum_known-l : goal.enum_known-l
-enum_known-l c = c.in-Text.keys1
-
-pub enum_known-l-in-Refused-1 : goal.enum_known-l-in-Refused-1
-enum_known-l-in-Refused-1 c = c.in-Refused.keys2
-
-pub enum_known-l-in-Short-1 : goal.enum_known-l-in-Short-1
-enum_known-l-in-Short-1 c = c.in-Short.keys3
-
 pub returns-in-Text : goal.returns-in-Text
 returns-in-Text c = rw c.in-Text.is c.sized.ensures
 
+-- the numbers of a block's refusal are words
 pub returns-in-Refused : goal.returns-in-Refused
-returns-in-Refused c = let w = (let the_words : ((c.refusal_numbers.result.a < 2 ^ 24) × (c.refusal_numbers.result.b < 2 ^ 16)) = (omega (arith, c.refusal_numbers.ensures.1), omega arith) in the_words) in rw c.in-Refused.is (sym (fitted_is _ w.0 w.1) ∙ ap fitted c.refusal_numbers.ensures.0, w.0)
+returns-in-Refused c = let r = c.refusal_numbers in
+    let a : r.result.a < 2 ^ 24 = omega (arith, r.ensures.1) in
+    let b : r.result.b < 2 ^ 16 = omega arith in
+    rw c.in-Refused.is (sym (fitted_is _ a b) ∙ ap fitted r.ensures.0, a)
 
 pub returns-in-Short : goal.returns-in-Short
 returns-in-Short c = rw c.in-Short.is c.sized-in-Short.ensures

@@ -2,6 +2,7 @@ use Prim.Native.Nat.{◌-◌}
 use lib.ListN.{length}
 use Rattle.words.specs.Words.{words_of}
 use Rattle.block_steps.proofs.Loops.{Loop}
+use Rattle.write_lines.proofs.Sizes.{Counted}
 use Rattle.write_lines.proofs.text_size.Given as goal
 
 abbrev pub invariant-loop-whole : goal.invariant-loop-whole

@@ -3,7 +3,7 @@ use Rattle.write_parts.specs.Laid.{card_lines, ended}
 use Rattle.words.proofs.Writing.{Going, start, fits, on, byte_put, done}
 use Rattle.words.proofs.Laws.{length_words_of, all_below}
 use Rattle.words.specs.Words.{words_of, Below}
-use Rattle.words.specs.Writing.{Room, Put}
+use Rattle.words.specs.Writing.{Room}
 use lib.ListN.{length, drop}
 use lib.Seq.{slice}
 use native.Mathlib.Omega.{arith}
@@ -36,7 +36,7 @@ pub overflow_add-next : goal.overflow_add-next
 overflow_add-next c = let l = c.loop-left in let r = room l.place l.left _ (omega arith) l.invariant.0 in omega (arith, length_words_of c.args.whole.now)
 
 pub span-requires : goal.span-requires
-span-requires c = let l = c.loop-left in let r = room l.place l.left _ (omega arith) l.invariant.0 in (omega arith, r.0)
+span-requires c = let l = c.loop-left in let r = room l.place l.left _ (omega arith) l.invariant.0 in (omega arith, omega arith)
 
 pub write_bytes-end-requires : goal.write_bytes-end-requires
 write_bytes-end-requires c = let l = c.loop-left in let b = c.args.whole.now in

@@ -2,7 +2,7 @@ use Rattle.write_parts.specs.Laid.{card_lines, ended}
 use Rattle.words.proofs.Writing.{Going}
 use Rattle.words.specs.Words.{words_of}
 use lib.ListN.{length, drop}
-use Prim.Native.Nat.{◌+◌, ◌-◌, ◌*◌, ◌≤◌}
+use Prim.Native.Nat.{◌+◌, ◌*◌, ◌≤◌}
 use Rattle.write_parts.proofs.write_cards.Given as goal
 
 abbrev pub invariant-loop-left : goal.invariant-loop-left

@@ -1,16 +1,15 @@
 use Rattle.write_parts.proofs.Turns.{fields_turn, no_fields, field_put}
-use Rattle.write_parts.specs.Laid.{fields_of}
 use Rattle.field.proofs.Written.{length_field_of}
 use Rattle.field.specs.Writing.{field_of}
 use Rattle.words.proofs.Writing.{Going, start, fits, on, done}
 use Rattle.words.proofs.Laws.{length_words_of}
 use Rattle.words.specs.Words.{words_of}
 use Rattle.words.specs.Writing.{Room}
-use lib.ListN.{length, take, drop}
+use lib.ListN.{length, drop}
 use native.Mathlib.Omega.{arith}
 use mathlib.Core.List.{List, ◌++◌}
 use mathlib.Core.Path.{◌≡◌}
-use Prim.Native.Nat.{ℕ, ◌+◌, ◌-◌, ◌≤◌}
+use Prim.Native.Nat.{ℕ, ◌+◌, ◌≤◌}
 use Rattle.write_parts.proofs.write_fields.Goals as goal
 
 -- the next word's field has room
@@ -36,12 +35,11 @@ overflow_add-to c = let l = c.loop-left in
     )
 
 pub loop-left-preserved : goal.loop-left-preserved
-loop-left-preserved c = let l = c.loop-left in
-    (
-      omega arith,
-      on l.invariant.1 (field_of c.word_at.result) _ (fields_turn (words_of c.args.whole.now) l.place l.left c.word_at.result (omega arith) (omega arith) c.word_at.ensures)
+loop-left-preserved c = let l = c.loop-left in (
+  omega arith,
+  on l.invariant.1 (field_of c.word_at.result) _ (fields_turn (words_of c.args.whole.now) l.place l.left c.word_at.result (omega arith) (omega arith) c.word_at.ensures)
       (field_put _ _ _ c.write_field.ensures),
-    )
+)
 
 pub shape_of-out : goal.shape_of-out
 shape_of-out c = c.loop-left.invariant.1.kept

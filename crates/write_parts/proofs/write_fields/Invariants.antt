@@ -2,7 +2,7 @@ use Rattle.write_parts.specs.Laid.{fields_of}
 use Rattle.words.proofs.Writing.{Going}
 use Rattle.words.specs.Words.{words_of}
 use lib.ListN.{length, take, drop}
-use Prim.Native.Nat.{◌+◌, ◌-◌, ◌≤◌}
+use Prim.Native.Nat.{◌+◌, ◌≤◌}
 use Rattle.write_parts.proofs.write_fields.Given as goal
 
 abbrev pub invariant-loop-left : goal.invariant-loop-left

@@ -3,7 +3,7 @@ use Rattle.line_plan.specs.Plan.{part}
 use Rattle.words.proofs.Writing.{Going}
 use Rattle.words.specs.Words.{words_of}
 use lib.ListN.{length, drop}
-use Prim.Native.Nat.{◌+◌, ◌-◌, ◌≤◌}
+use Prim.Native.Nat.{◌+◌, ◌≤◌}
 use Rattle.write_parts.proofs.write_part.Given as goal
 
 abbrev pub invariant-loop-left : goal.invariant-loop-left

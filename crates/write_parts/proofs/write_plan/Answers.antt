@@ -6,12 +6,11 @@ use Rattle.write_parts.proofs.write_plan.Goals as goal
 
 -- the prologue, and the tables
 pub write_prologue-to-requires : goal.write_prologue-to-requires
-write_prologue-to-requires c = let a = c.args in
-    (
-      c.requires.0,
-      omega (arith, c.requires.1),
-      first_fits a.out.now _ _ _ (plan-text (words_of a.whole.now) a.c a.lines c.requires.0) c.requires.2,
-    )
+write_prologue-to-requires c = let a = c.args in (
+  c.requires.0,
+  omega (arith, c.requires.1),
+  first_fits a.out.now _ _ _ (plan-text (words_of a.whole.now) a.c a.lines c.requires.0) c.requires.2,
+)
 
 pub write_tables-requires : goal.write_tables-requires
 write_tables-requires c = let a = c.args in

@@ -15,8 +15,7 @@ loop-left-init c = (c.requires.0, start)
 -- the next row, and the rows behind it have their words
 pub write_part-to-requires : goal.write_part-to-requires
 write_part-to-requires c = let l = c.loop-left in
-    let n = c.args.width.0 in
-    (
+    let n = c.args.width.0 in (
       omega (arith, rows_left l.place n l.left _ (omega arith) l.invariant.0),
       fits l.invariant.1 _ _ (row_turn (words_of c.args.whole.now) l.place n l.left (omega arith)) c.requires.1,
     )
@@ -27,8 +26,7 @@ overflow_add-place c = let l = c.loop-left in
 
 pub loop-left-preserved : goal.loop-left-preserved
 loop-left-preserved c = let l = c.loop-left in
-    let n = c.args.width.0 in
-    (
+    let n = c.args.width.0 in (
       rows_left l.place n l.left _ (omega arith) l.invariant.0,
       on l.invariant.1 _ _ (row_turn (words_of c.args.whole.now) l.place n l.left (omega arith)) c.write_part-to.ensures,
     )

@@ -11,11 +11,10 @@ pub write_rows-to-requires : goal.write_rows-to-requires
 write_rows-to-requires c = let a = c.args in (omega arith, first_fits a.out.now _ _ _ (tables-text (words_of a.whole.now) a.c) c.requires.1)
 
 pub write_rows-requires : goal.write_rows-requires
-write_rows-requires c = let a = c.args in
-    (
-      omega (arith, mul_comm a.c.mpar (a.c.nrow + 1)),
-      second_fits _ _ _ _ (tables-text (words_of a.whole.now) a.c) c.requires.1 c.write_rows-to.ensures,
-    )
+write_rows-requires c = let a = c.args in (
+  omega (arith, mul_comm a.c.mpar (a.c.nrow + 1)),
+  second_fits _ _ _ _ (tables-text (words_of a.whole.now) a.c) c.requires.1 c.write_rows-to.ensures,
+)
 
 pub returns : goal.returns
 returns c = both-put _ _ _ _ (tables-text (words_of c.args.whole.now) c.args.c) c.requires.1 c.write_rows-to.ensures c.write_rows.ensures
