@@ -1,5 +1,6 @@
 // What the programs print, but for the listing: the lines of a block, the size of a text's block or the block itself, blocks packed again; or the line of a refusal.
 #![tactic(auto)]
+
 ghost use Rattle.std.specs.Prelude.{[], ◌∷◌, ◌≤◌, length};
 ghost use Rattle.words.specs.Writing.{Room, Put};
 ghost use Rattle.report.specs.Text.{line_of};

@@ -1,4 +1,4 @@
-use mathlib.Core.Path.{◌≡◌, ap, ◌∙◌}
+use mathlib.Core.Path.{ap, ◌∙◌}
 use native.Mathlib.Omega.{arith}
 use Rattle.units.proofs.Packing.{fitted_is}
 use Rattle.words.specs.Outcomes.{leaves}
@@ -9,13 +9,12 @@ use Rattle.repacking.specs.Repacking.{repack}
 use Rattle.printed.proofs.Outcome.{blocks_bound, ended, slice_row}
 use Rattle.printed.proofs.print_blocks.Goals as goal
 
-pub end_or_refusal-requires : goal.end_or_refusal-requires
-end_or_refusal-requires c = omega (arith, c.end_or_refusal-arg-1.given.0.1)
-
+-- the four numbers and the buffer are the call's
 pub returns : goal.returns
 unfolding repack
-returns c = let b = c.args.slice.now in
+returns c =
+    let b = c.args.slice.now in
     let below = all_below 256 b (λ i. omega (arith, c.type_inv.slice i)) in
-    ended (λ bs. repacked (records_in bs)) 50 _ c.end_or_refusal.ensures (blocks_in b) (omega (arith, blocks_bound b below, c.repack-arg-1.given.0.1)) (slice_row b below) ((let the_told : (let a = c.args in
-    leaves c.numbers-told.result c.repack.new.out ≡ repack a.slice.now a.out.now) = let t = c.repack.ensures in
-    ap (λ r. leaves r c.repack.new.out) (c.numbers-told.ensures.0 ∙ fitted_is _ t.packs.a_fits t.packs.b_fits) ∙ t.outcome in the_told))
+    let t = c.repack.ensures in
+    ended (λ bs. repacked (records_in bs)) 50 _ c.end_or_refusal.ensures (blocks_in b) (omega (arith, blocks_bound b below)) (slice_row b below)
+    (ap (λ r. leaves r c.repack.new.out) (c.numbers-told.ensures.0 ∙ fitted_is _ t.packs.a_fits t.packs.b_fits) ∙ t.outcome)

@@ -1,6 +1,6 @@
 use mathlib.Core.Path.{◌≡◌, refl}
 use mathlib.Core.List.{[], ◌∷◌, ◌++◌}
-use Prim.Native.Nat.{ℕ}
+use Rattle.std.proofs.Common.{ℕ}
 use Rattle.words.proofs.Writing.{first_fits, second_fits, both-put}
 use Rattle.report.specs.Text.{behind, line_of}
 use Rattle.report.specs.Decimal.{decimal_of}
