@@ -35,6 +35,7 @@ fn at_end(rest: Rest, num: Lines, held: Words) -> Content
 }
 
 // Reads a text, line by line, and puts its words into the block behind its length word, as far as it has room.
+#[tactic(auto, using(crate::proofs::Outcome::too_long))]
 pub fn read(text: &[u8], block: &mut [u8]) -> Content
     ensures { stored_of block.new result ≡ stored 0 block.old (read_text text.now) }
 {

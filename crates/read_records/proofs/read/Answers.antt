@@ -9,7 +9,7 @@ use Rattle.read_first_line.specs.State.{to_come}
 use Rattle.read_first_line.specs.FirstLine.{Shape}
 use Rattle.read_records.specs.Content.{stored}
 use Rattle.read_records.specs.Reading.{read_text}
-use Rattle.read_records.proofs.Outcome.{too_long, line_by_line}
+use Rattle.read_records.proofs.Outcome.{line_by_line}
 use Rattle.read_records.proofs.Opened.{words_to_come, RoomToCome}
 use Rattle.read_records.proofs.read.Goals as goal
 
@@ -17,9 +17,6 @@ use Rattle.read_records.proofs.read.Goals as goal
 none-held : {rest : List Shape} → rest ≡ [] → RoomToCome 0 rest
 unfolding words_to_come
 none-held e = rw e (omega arith)
-
-pub returns-then-text-gt65536 : goal.returns-then-text-gt65536
-returns-then-text-gt65536 c = let a = c.args in ap (stored 0 a.block.now) (sym (too_long a.text.now c.if-text-gt65536.true))
 
 pub loop-at-init : goal.loop-at-init
 loop-at-init c = let a = c.args in
