@@ -1,5 +1,6 @@
 // A block: records end to end, with length word and checksum; the judge.
 #![tactic(auto)]
+
 ghost use Rattle.std.specs.Prelude.{◌≡◌, ◌<◌, ◌≤◌, length};
 ghost use Rattle.units.specs.Answers.{answered};
 ghost use Rattle.words.specs.Words.{words_of, most_words};

@@ -1,5 +1,6 @@
 // The records of a block, one after the other: the next one, record n, and one lent as a part of the block.
 #![tactic(auto)]
+
 ghost use Rattle.std.specs.Prelude.{◌≡◌};
 ghost use Rattle.words.specs.Words.{words_of, bytes_of};
 ghost use Rattle.block_steps.specs.Steps.{record_at};

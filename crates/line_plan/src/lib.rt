@@ -1,5 +1,6 @@
 // The plan of a record's lines: how many fields stand on each.
 #![tactic(auto)]
+
 ghost use Rattle.std.specs.Prelude.{◌≡◌, min};
 
 use units::Words;

@@ -16,10 +16,10 @@ module _ (b : List ℕ) {stated there : ℕ} (off : wrong_size (length b) ≡ fa
   judged-refused : (stated ≡ there → ⊥) → refused (answer 2 0 0 0) ≡ judged b
   unfolding judged
   judged-refused ne = simp (off, ← says, ← size, ne_eqb stated there ne)
+
   judged-on : {v : Verdict ℕ} → stated ≡ there → v ≡ judge_words (words_of b) → v ≡ judged b
   unfolding judged
   judged-on e w = w ∙ simp (off, ← says, ← size, eq-eqb stated there e)
-
 
 pub returns-then-wrong_size : goal.returns-then-wrong_size
 unfolding judged

@@ -17,9 +17,9 @@ use Rattle.block.proofs.judge_words.Goals as goal
 module _ (ws : List ℕ) {n stored sum : ℕ} (size : n ≡ length ws) (s : stored ≡ get_or ws (n - 1) 0) (x : sum ≡ xor_all (take (n - 1) ws)) where
   summed-refused : (stored ≡ sum → ⊥) → refused (answer 3 0 0 (ones (bit_xor stored sum))) ≡ judge_words ws
   summed-refused ne = simp (← size, ← s, ← x, ne_eqb stored sum ne)
+
   summed-walked : {v : Verdict ℕ} → stored ≡ sum → v ≡ walk 0 1 (slice 1 (n - 1) ws) → v ≡ judge_words ws
   summed-walked e w = simp (← size, ← s, ← x, eq-eqb stored sum e, w)
-
 
 pub overflow_cast-bits : goal.overflow_cast-bits
 overflow_cast-bits c = let x = c.word_at-stored.result in let y = c.exclusive_or-checksum.result in

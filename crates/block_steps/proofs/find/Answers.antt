@@ -1,11 +1,9 @@
-use Prim.Native.Nat.{ℕ, ◌≤◌}
 use mathlib.Core.Path.{◌≡◌, refl, sym, ◌∙◌}
-use mathlib.Core.List.{List}
 use native.Mathlib.Omega.{arith}
 use Rattle.words.specs.Words.{words_of}
 use Rattle.words.proofs.Laws.{length_words_of}
 use Rattle.block_steps.specs.declared.Place.TheVariants.{Record}
-use Rattle.block_steps.specs.Steps.{step_of, find_of}
+use Rattle.block_steps.specs.Steps.{step_of}
 use Rattle.block_steps.proofs.Steps.{step_found, find_none, find_first, find_on}
 use Rattle.block_steps.proofs.find.Goals as goal
 

@@ -13,16 +13,18 @@ module _ (n : ℕ) (r : List ℕ) {left kind : ℕ} (size : left ≡ length r) (
     as_catalogue : kind ≡ 2001 → v ≡ judge_cards n 13 r → v ≡ judge_record n r
     unfolding judge_record
     as_catalogue e w = simp (← size, le-ltb left 16 fits, ← is, eq-eqb kind 2001 e) w
+
     as_header : (kind ≡ 2001 → ⊥) → kind ≡ 3002 → v ≡ judge_cards n 16 r → v ≡ judge_record n r
     unfolding judge_record
     as_header c e w = simp (← size, le-ltb left 16 fits, ← is, ne_eqb kind 2001 c, eq-eqb kind 3002 e) w
+
     as_data : (kind ≡ 2001 → ⊥) → (kind ≡ 3002 → ⊥) → kind ≡ 1002 → v ≡ judge_data n r → v ≡ judge_record n r
     unfolding judge_record
     as_data c h e w = simp (← size, le-ltb left 16 fits, ← is, ne_eqb kind 2001 c, ne_eqb kind 3002 h, eq-eqb kind 1002 e) w
+
   no_kind : (kind ≡ 2001 → ⊥) → (kind ≡ 3002 → ⊥) → (kind ≡ 1002 → ⊥) → refused (answer 5 n 2 0) ≡ judge_record n r
   unfolding judge_record
   no_kind c h d = simp (← size, le-ltb left 16 fits, ← is, ne_eqb kind 2001 c, ne_eqb kind 3002 h, ne_eqb kind 1002 d)
-
 
 pub returns-then-left-lt16 : goal.returns-then-left-lt16
 unfolding judge_record

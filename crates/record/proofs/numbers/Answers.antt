@@ -1,4 +1,3 @@
-
 use Rattle.record.proofs.numbers.Goals as goal
 
 pub returns-in-Short : goal.returns-in-Short
