@@ -1,5 +1,6 @@
 // Block to lines: the standard lines of a block's records, written straight into the lent text.
 #![tactic(auto)]
+
 ghost use Rattle.std.specs.Prelude.{◌≡◌, ◌^◌, ◌≤◌, ◌<◌, length};
 ghost use Rattle.words.specs.Words.{word, words_of, most_record_words};
 ghost use Rattle.words.specs.Writing.{Room, Put};

@@ -1,9 +1,8 @@
-use Prim.Native.Nat.{◌+◌, ◌≤◌}
 use native.Mathlib.Omega.{arith}
 use Rattle.words.proofs.Laws.{all_below}
 use Rattle.block_steps.proofs.Loops.{loop_start, turn, loop_on, loop_end}
 use Rattle.write_lines.specs.Text.{text_of}
-use Rattle.write_lines.proofs.Sizes.{Counted, counted, text_bound}
+use Rattle.write_lines.proofs.Sizes.{counted, text_bound}
 use Rattle.write_lines.proofs.text_size.Goals as goal
 
 pub loop-whole-init : goal.loop-whole-init

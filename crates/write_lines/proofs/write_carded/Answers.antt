@@ -33,8 +33,7 @@ write_head-to-requires c = let a = c.args in let r = words_of a.whole.now in
 pub write_cards-requires : goal.write_cards-requires
 write_cards-requires c = let r = words_of c.args.whole.now in
     let k = is_cards r c.requires.0.good.ok c.requires.1 in
-    let p = pieces r c.requires.1 c.count_shown-lines.ensures c.kind_shown-kind.ensures c.word_at.ensures c.lines_said-cards.ensures.0 in
-    (
+    let p = pieces r c.requires.1 c.count_shown-lines.ensures c.kind_shown-kind.ensures c.word_at.ensures c.lines_said-cards.ensures.0 in (
       omega (arith, c.lines_said-cards.ensures.0 ∙ c.count_shown-lines.ensures, k.count, k.whole, k.least),
       second_fits _ _ _ _ p c.requires.0.room c.write_head-to.ensures,
     )

@@ -5,7 +5,7 @@ use native.Mathlib.Omega.{arith}
 use Rattle.write_lines.proofs.write_text.Goals as goal
 
 pub returns-then-text-bytes : goal.returns-then-text-bytes
-returns-then-text-bytes c = too_short 29 c.args.text.now (text_of (records_of c.args.block.now)) c.text_size-needed.result.0 c.text_size-needed.ensures c.if-text-bytes.true
+returns-then-text-bytes c = too_short 29 c.args.text.now (text_of (records_of c.args.block.now)) c.text_size-needed.result.0 c.text_size-needed.ensures (omega arith)
 
 pub write_records-end-requires : goal.write_records-end-requires
 write_records-end-requires c = (c.requires, omega (arith, c.text_size-needed.ensures))
