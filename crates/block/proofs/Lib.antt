@@ -1,4 +1,5 @@
 pub mod Size
+pub mod Summed
 pub mod Walk
 pub mod Exact
 pub mod Known

@@ -65,6 +65,7 @@ fn judge_records(inner: &[u8]) -> Judged
 }
 
 // Judges the checksum and the records of a block whose size and length word are right.
+#[tactic(auto, using(crate::proofs::Summed::words_front, crate::proofs::Summed::words_inner))]
 fn judge_words(block: &[u8]) -> Judged
     requires { (18 ≤ length (words_of block.now)) × (length (words_of block.now) ≤ most_words) }
     ensures { judged_of result ≡ judge_words (words_of block.now) }
@@ -81,6 +82,7 @@ fn judge_words(block: &[u8]) -> Judged
 }
 
 // Judges a block: whether it keeps the rules of the format, and how many records it has.
+#[tactic(auto, unfolding(crate::specs::Judging::judged))]
 pub fn judge(block: &[u8]) -> Judged
     ensures { Judges block.now result }
 {
