@@ -2,12 +2,12 @@
 #![tactic(auto)]
 
 use std::io;
-use std::io::{Print, Read};
+use std::io::Print;
 
 fn main(rt: HostRuntime) -> io::Result<()> {
-    let mut input = Vec::new(rt.alloc());
-    rt.reader().take(65537).read_to_end(&mut input)?;
+    let mut input = [0u8; 65537];
+    let n = read_input::read_full(&mut rt.reader(), &mut input)?;
     let mut line = [0u8; printed::SIZE_BYTES];
-    let end = printed::print_size(&input, &mut line).0;
+    let end = printed::print_size(&input[..n], &mut line).0;
     rt.write_all(&line[..end])
 }

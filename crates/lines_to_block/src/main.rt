@@ -3,7 +3,7 @@
 
 use read_text::Judged;
 use std::io;
-use std::io::{Print, Read};
+use std::io::Print;
 
 fn put_block(rt: &HostRuntime, text: &[u8]) -> io::Result<()> {
     let mut block = [0u8; printed::BLOCK_BYTES];
@@ -18,10 +18,10 @@ fn put_refusal(rt: &HostRuntime, text: &[u8]) -> io::Result<()> {
 }
 
 fn main(rt: HostRuntime) -> io::Result<()> {
-    let mut input = Vec::new(rt.alloc());
-    rt.reader().take(65537).read_to_end(&mut input)?;
-    match read_text::judge_lines(&input) {
-        Judged::Size(_) => put_block(&rt, &input),
-        Judged::Flawed(_) => put_refusal(&rt, &input),
+    let mut input = [0u8; 65537];
+    let n = read_input::read_full(&mut rt.reader(), &mut input)?;
+    match read_text::judge_lines(&input[..n]) {
+        Judged::Size(_) => put_block(&rt, &input[..n]),
+        Judged::Flawed(_) => put_refusal(&rt, &input[..n]),
     }
 }

@@ -2,7 +2,7 @@
 #![tactic(auto)]
 
 use std::io;
-use std::io::{Print, Read};
+use std::io::Print;
 
 fn put_blocks(rt: &HostRuntime, slice: &[u8]) -> io::Result<()> {
     let mut packed = [0u8; printed::SLICE_BYTES];
@@ -11,7 +11,7 @@ fn put_blocks(rt: &HostRuntime, slice: &[u8]) -> io::Result<()> {
 }
 
 fn main(rt: HostRuntime) -> io::Result<()> {
-    let mut input = Vec::new(rt.alloc());
-    rt.reader().take(64001).read_to_end(&mut input)?;
-    put_blocks(&rt, &input)
+    let mut input = [0u8; 64001];
+    let n = read_input::read_full(&mut rt.reader(), &mut input)?;
+    put_blocks(&rt, &input[..n])
 }
