@@ -42,7 +42,7 @@ die() {
 
 # sum FILE..: of the files, and those in folders, but for what rt makes there.
 sum() {
-    (cd "$home" && find "$@" -name out -prune -o -type f -exec cksum {} + | LC_ALL=C sort | cksum)
+    (cd "$home" && find "$@" -regex 'crates/[^/]*/out' -prune -o -type f -exec cksum {} + | LC_ALL=C sort | cksum)
 }
 
 # is_built PROGRAM: from the crates as they are now. Their times would not tell: a copy of them has new ones.

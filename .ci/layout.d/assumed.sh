@@ -1,6 +1,6 @@
 # Nothing is assumed: no axiom, no hole, `?` or `{! .. !}`, and no foreign function, whose contract a check would take as it stands.
 nothing_assumed() {
-    find crates -name out -prune -o \( -name '*.rt' -o -name '*.antt' \) -exec awk '
+    find crates -regex 'crates/[^/]*/out' -prune -o \( -name '*.rt' -o -name '*.antt' \) -exec awk '
         # A line without its quoted texts and its comment.
         function code(line,    kept) {
             while (match(line, marks)) {

@@ -40,7 +40,7 @@ crates_told() {
 # CRATE OTHER, where the code of CRATE says `OTHER::`, or its code or proofs `Rattle.OTHER`. A module that a file takes from std, as
 # `use std::io;`, is no crate.
 crates_named() {
-    find crates -name out -prune -o \( -name '*.rt' -o -name '*.antt' \) -exec awk '
+    find crates -regex 'crates/[^/]*/out' -prune -o \( -name '*.rt' -o -name '*.antt' \) -exec awk '
         function named(other) {
             if (other != path[2] && other !~ /^(crate|self|super|std|[iu](8|16|32|64|128|size))$/ && !(other in of_std)) print path[2], other
         }

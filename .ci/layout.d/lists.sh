@@ -2,7 +2,7 @@
 
 # Every function that is public or for C: crate::function, its signature, its contract; tabs between.
 functions() {
-    find crates -name out -prune -o -path '*/src/*.rt' -exec awk '
+    find crates -regex 'crates/[^/]*/out' -prune -o -path '*/src/*.rt' -exec awk '
         FNR == 1 { split(FILENAME, path, "/"); head = "" }
         { sub(/ *\/\/.*/, "") }
         /^ *(pub|extern) ([a-z]+ |"C" )*fn [a-z]/ || head != "" { head = head " " $0 }

@@ -16,7 +16,7 @@ refusals_in() {
 
 # The numbers that the definitions answer; demands and tables are none.
 refusals_given() {
-    find crates -name out -prune -o -path '*/specs/*.antt' ! -path 'crates/demands/*' ! -path 'crates/refusals/*' -exec cat {} + | refusals_in
+    find crates -regex 'crates/[^/]*/out' -prune -o -path '*/specs/*.antt' ! -path 'crates/demands/*' ! -path 'crates/refusals/*' -exec cat {} + | refusals_in
 }
 
 refusals_told() {
