@@ -26,6 +26,13 @@ pub struct Answer {
     pub c: u16,
 }
 
+// Why a conversion writes nothing: what it converts is refused, or the output is shorter than these bytes.
+#[derive(Clone, Copy)]
+pub enum Unwritten<R> {
+    Refused(R),
+    Short(Bytes),
+}
+
 // The bytes that `w` words take.
 pub fn bytes_of_words(w: Words) -> Bytes
     requires { w.0 < 2 ^ 62 }
