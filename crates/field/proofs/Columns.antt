@@ -1,11 +1,9 @@
 -- The scan of a field, column by column.
-use Rattle.std.proofs.Common.{◌≡◌, ℕ, zero, suc, ◌+◌, ◌-◌, ◌*◌, ◌%◌, ◌^◌, ◌<◌, ◌≤◌, Bool, true, false, ◌&&◌, eqb, leb, List, [], ◌∷◌, length, get_or, refl, ap, ◌∙◌, add-zero, pow-suc, arith, ne_eqb, le-leb, leb-true}
+use Rattle.std.proofs.Common.{◌≡◌, ℕ, zero, suc, ◌+◌, ◌-◌, ◌*◌, ◌%◌, ◌^◌, ◌<◌, ◌≤◌, Bool, true, false, ◌&&◌, eqb, leb, List, [], ◌∷◌, length, get_or, refl, ap, ◌∙◌, add-zero, pow-suc, arith, ne_eqb, le-leb, leb-true, Option, None}
 use native.Mathlib.Nat.{pow-le-pow_right}
 use lib.ListN.{get_or-eq_default}
 use Rattle.units.proofs.Verdicts.{and_on}
 use Rattle.units.proofs.Choosing.{by_test, both_ways}
-use Rattle.field.specs.declared.Number.{Number}
-use Rattle.field.specs.declared.Number.TheVariants.{Bad}
 use Rattle.field.specs.declared.Scan.{Scan}
 use Rattle.field.specs.declared.Scan.TheVariants.{Blank, Sign, Digits, Spoiled}
 use Rattle.field.specs.Reading.{with_digit, after_column, finish_of, scan_of, read_field, columns, so_far}
@@ -100,7 +98,7 @@ module _ (line : List ℕ) (at : ℕ) where
           rest = rw (g, e, d) (rw f at p.rest);
         }
 
-    pub scan-ends : (r : Number) → 6 ≤ i → r ≡ finish_of s → r ≡ read_field (columns 6 line at)
+    pub scan-ends : (r : Option ℕ) → 6 ≤ i → r ≡ finish_of s → r ≡ read_field (columns 6 line at)
     unfolding read_field columns
     scan-ends r h e =
         let f : 0 ≡ 6 - i = omega (arith, p.within) in
@@ -108,20 +106,20 @@ module _ (line : List ℕ) (at : ℕ) where
 
 -- ---- a field whose last column is blank is bad
 
-blank_last : (s : Scan) → Bad ≡ finish_of (after_column s 32)
+blank_last : (s : Scan) → None ≡ finish_of (after_column s 32)
 blank_last Blank = refl
 blank_last (Sign minus) = refl
 blank_last (Digits minus m) = refl
 blank_last Spoiled = refl
 
-cut_short : (line : List ℕ) (at : ℕ) → length line < at + 6 → Bad ≡ read_field (columns 6 line at)
+cut_short : (line : List ℕ) (at : ℕ) → length line < at + 6 → None ≡ read_field (columns 6 line at)
 unfolding read_field columns
 cut_short line at h =
     let e : get_or line (suc (suc (suc (suc (suc at))))) 32 ≡ 32 = get_or-eq_default line 32 (omega arith) in
     rw e (blank_last (scan_of Blank (columns 5 line at)))
 
-pub short_line : (line : List ℕ) (at : ℕ) → length line < 6 → Bad ≡ read_field (columns 6 line at)
+pub short_line : (line : List ℕ) (at : ℕ) → length line < 6 → None ≡ read_field (columns 6 line at)
 short_line line at h = cut_short line at (omega arith)
 
-pub past-line : (line : List ℕ) (at : ℕ) → 6 ≤ length line → length line - 6 < at → Bad ≡ read_field (columns 6 line at)
+pub past-line : (line : List ℕ) (at : ℕ) → 6 ≤ length line → length line - 6 < at → None ≡ read_field (columns 6 line at)
 past-line line at h k = cut_short line at (omega arith)

@@ -1,8 +1,7 @@
 -- A field is read exactly where the grammar has one.
-use Rattle.std.proofs.Common.{◌≡◌, ℕ, zero, suc, ◌+◌, ◌-◌, ◌*◌, ◌%◌, ◌<◌, ◌≤◌, Bool, true, false, ◌&&◌, eqb, leb, List, [], ◌∷◌, ◌++◌, sym, refl, ap, ◌∙◌, append_assoc, append-nil, zero-add, arith, eqb-true, le-leb, leb-true}
+use Rattle.std.proofs.Common.{◌≡◌, ℕ, zero, suc, ◌+◌, ◌-◌, ◌*◌, ◌%◌, ◌<◌, ◌≤◌, Bool, true, false, ◌&&◌, eqb, leb, List, [], ◌∷◌, ◌++◌, sym, refl, ap, ◌∙◌, append_assoc, append-nil, zero-add, arith, eqb-true, le-leb, leb-true, Some, None}
 use Rattle.units.proofs.Verdicts.{and_on}
 use Rattle.units.proofs.Choosing.{by_test}
-use Rattle.field.specs.declared.Number.TheVariants.{Word, Bad}
 use Rattle.field.specs.declared.Scan.{Scan}
 use Rattle.field.specs.declared.Scan.TheVariants.{Blank, Sign, Digits, Spoiled}
 use Rattle.field.specs.Writing.{blanks}
@@ -38,12 +37,12 @@ form_read (in_order n no_sign h) = rw (append_assoc, scan_blanks) (digits_read f
 form_read (in_order n plus_sign h) = rw (append_assoc, scan_blanks) (digits_read false (Sign false) (λ b k. refl) h)
 form_read (in_order n minus_sign h) = rw (append_assoc, scan_blanks) (digits_read true (Sign true) (λ b k. refl) h)
 
-value_read : {minus : Bool} {m w : ℕ} → SignedWord minus m w → value_of minus m ≡ Word w
+value_read : {minus : Bool} {m w : ℕ} → SignedWord minus m w → value_of minus m ≡ Some w
 value_read (not_negative {m} h) = simp (le-leb m 32767 (omega arith))
 value_read (negative {m} k h) = let e : (65536 - m) % 65536 ≡ 65536 - m = omega arith in simp (le-leb m 32768 (omega arith), e)
 value_read minus_zero = refl
 
-pub field_read : {bs : List ℕ} {w : ℕ} → IsField bs w → read_field bs ≡ Word w
+pub field_read : {bs : List ℕ} {w : ℕ} → IsField bs w → read_field bs ≡ Some w
 unfolding read_field
 field_read f = ap finish_of (form_read f.form) ∙ value_read f.value
 
@@ -106,25 +105,25 @@ form_said : {bs : List ℕ} {minus : Bool} {m : ℕ} → scan_of Blank bs ≡ Di
 form_said {bs} e = rw e at (columns_reached [] bs Blank (0, refl))
 
 -- a bad field is no word
-never : {A : Type 0} (w : ℕ) → Bad ≡ Word w → A
+never : {A : Type 0} (w : ℕ) → None ≡ Some w → A
 never w e = let z : ◌≡◌ {A = ℕ} 0 1 = cc in absurd (omega arith)
 
-value_said : (minus : Bool) (m w : ℕ) → value_of minus m ≡ Word w → SignedWord minus m w
+value_said : (minus : Bool) (m w : ℕ) → value_of minus m ≡ Some w → SignedWord minus m w
 value_said false m w =
-    by_test (λ v. v ≡ Word w → SignedWord false m w) (leb m 32767) (Word m) Bad
+    by_test (λ v. v ≡ Some w → SignedWord false m w) (leb m 32767) (Some m) None
     (λ t e. let f : w ≡ m = cc in rw f (not_negative (leb-true m 32767 t)))
     (λ _. never w)
 value_said true zero w = λ e. let f : 0 ≡ w = cc in rw (← f) minus_zero
 value_said true (suc m) w =
-    by_test (λ v. v ≡ Word w → SignedWord true (suc m) w) (leb (suc m) 32768) (Word ((65536 - suc m) % 65536)) Bad
+    by_test (λ v. v ≡ Some w → SignedWord true (suc m) w) (leb (suc m) 32768) (Some ((65536 - suc m) % 65536)) None
     (λ t e. let f : (65536 - suc m) % 65536 ≡ w = cc in let g : w ≡ 65536 - suc m = omega arith in rw g (negative {m = suc m} (omega arith) (leb-true (suc m) 32768 t)))
     (λ _. never w)
 
-pub field_said : {bs : List ℕ} {w : ℕ} → read_field bs ≡ Word w → IsField bs w
+pub field_said : {bs : List ℕ} {w : ℕ} → read_field bs ≡ Some w → IsField bs w
 unfolding read_field
 field_said {bs} {w} = by (scan_of Blank bs) refl
   where
-    by : (s : Scan) → scan_of Blank bs ≡ s → finish_of s ≡ Word w → IsField bs w
+    by : (s : Scan) → scan_of Blank bs ≡ s → finish_of s ≡ Some w → IsField bs w
     by Blank f e = never w e
     by (Sign minus) f e = never w e
     by (Digits minus m) f e = record { minus = minus; number = m; form = form_said f; value = value_said minus m w e }

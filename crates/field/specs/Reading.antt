@@ -1,8 +1,6 @@
 -- Document 01, "The lines": a number field as it is read, column by column.
-use Rattle.std.specs.Prelude.{ℕ, zero, suc, ◌+◌, ◌-◌, ◌*◌, ◌%◌, Bool, true, false, ◌&&◌, List, [], ◌∷◌, ◌==◌, nat_le, slice_index_or}
+use Rattle.std.specs.Prelude.{ℕ, zero, suc, ◌+◌, ◌-◌, ◌*◌, ◌%◌, Bool, true, false, ◌&&◌, List, [], ◌∷◌, ◌==◌, nat_le, slice_index_or, Option, Some, None}
 use Rattle.std.specs.Prelude.{if◌then◌else◌}
-use Rattle.field.specs.declared.Number.{Number}
-use Rattle.field.specs.declared.Number.TheVariants.{Word, Bad}
 use Rattle.field.specs.declared.Scan.{Scan}
 use Rattle.field.specs.declared.Scan.TheVariants.{Blank, Sign, Digits, Spoiled}
 
@@ -22,20 +20,20 @@ abbrev pub scan_of : Scan → List ℕ → Scan
 scan_of s [] = s
 scan_of s (b ∷ bs) = scan_of (after_column s b) bs
 
--- "its value lies in -32768 to 32767", and "    -0" is 0
-abbrev pub value_of : Bool → ℕ → Number
-value_of true m = if nat_le m 32768 then Word ((65536 - m) % 65536) else Bad
-value_of false m = if nat_le m 32767 then Word m else Bad
+-- "its value lies in -32768 to 32767", and "    -0" is 0; a bad field has no word
+abbrev pub value_of : Bool → ℕ → Option ℕ
+value_of true m = if nat_le m 32768 then Some ((65536 - m) % 65536) else None
+value_of false m = if nat_le m 32767 then Some m else None
 
 -- "its last column is a digit"
-abbrev pub finish_of : Scan → Number
-finish_of Blank = Bad
-finish_of (Sign minus) = Bad
+abbrev pub finish_of : Scan → Option ℕ
+finish_of Blank = None
+finish_of (Sign minus) = None
 finish_of (Digits minus m) = value_of minus m
-finish_of Spoiled = Bad
+finish_of Spoiled = None
 
 -- "A field is blanks, then at most one sign, then digits to its last column"
-unfoldable pub read_field : List ℕ → Number
+unfoldable pub read_field : List ℕ → Option ℕ
 read_field bs = finish_of (scan_of Blank bs)
 
 -- the n columns of a line from `at` on, counted from 0: "Columns that a line lacks are blank"

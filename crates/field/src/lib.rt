@@ -10,13 +10,6 @@ ghost use Rattle.field.specs.Reading.{with_digit, after_column, value_of, finish
 
 use units::Bytes;
 
-// What a field holds.
-#[derive(Clone, Copy)]
-pub enum Number {
-    Word(u16),
-    Bad,
-}
-
 // Where the reading of a field stands: the sign is true for a minus, and the digits have their value so far.
 #[derive(Clone, Copy)]
 pub enum Scan {
@@ -174,45 +167,43 @@ fn after_column(s: Scan, b: u8) -> Scan
     }
 }
 
-// The word of a sign and a value.
-fn signed(minus: bool, m: u32) -> Number
+// The word of a sign and a value, if it has one.
+fn signed(minus: bool, m: u32) -> Option<u16>
     ensures { result ≡ value_of minus m }
 {
     if minus {
         if 32768 < m {
-            return Number::Bad;
+            return None;
         }
-        let below = ((65536 - m) % 65536) as u16;
-        return Number::Word(below);
+        return Some(((65536 - m) % 65536) as u16);
     }
     if 32767 < m {
-        return Number::Bad;
+        return None;
     }
-    let word = m as u16;
-    Number::Word(word)
+    Some(m as u16)
 }
 
-// What the field holds whose last column led here.
-fn finish(s: Scan) -> Number
+// What the field holds whose last column led here; a bad one holds nothing.
+fn finish(s: Scan) -> Option<u16>
     ensures { result ≡ finish_of s }
 {
     match s {
-        Scan::Blank => Number::Bad,
-        Scan::Sign(_) => Number::Bad,
+        Scan::Blank => None,
+        Scan::Sign(_) => None,
         Scan::Digits(minus, m) => signed(minus, m),
-        Scan::Spoiled => Number::Bad,
+        Scan::Spoiled => None,
     }
 }
 
 // Where the line ends before the sixth column, that column is blank. Apart from `read_field`: in one function with it the loop takes more instructions.
-fn scan_field(line: &[u8], at: usize) -> Number
+fn scan_field(line: &[u8], at: usize) -> Option<u16>
     ensures { result ≡ read_field (columns 6 line.now at) }
 {
     if line.len() < 6 {
-        return Number::Bad;
+        return None;
     }
     if line.len() - 6 < at {
-        return Number::Bad;
+        return None;
     }
     let mut s = Scan::Blank;
     let mut i: usize = 0;
@@ -223,8 +214,8 @@ fn scan_field(line: &[u8], at: usize) -> Number
     finish(s)
 }
 
-// Reads the six columns from place `at` on of a line; columns that it lacks are blank.
-pub fn read_field(line: &[u8], at: Bytes) -> Number
+// Reads the six columns from place `at` on of a line; columns that it lacks are blank. A bad field has no word.
+pub fn read_field(line: &[u8], at: Bytes) -> Option<u16>
     ensures { result ≡ read_field (columns 6 line.now at.0) }
 {
     scan_field(line, at.0)
