@@ -44,7 +44,7 @@ fn count_records(block: &[u8], current: Current) -> Current
         if n == 0 {
             return to;
         }
-        to = packing::with_record(packing::room_for(to, Words(n)), Words(n));
+        to = to.room_for(Words(n)).with_record(Words(n));
         at += n;
     }
 }
@@ -57,10 +57,7 @@ fn judge_blocks(slice: &[u8]) -> Measured
     let end = slice.len();
     let mut at = 0;
     let mut number: u16 = 1;
-    let mut current = Current {
-        start: Bytes(0),
-        used: Words(0),
-    };
+    let mut current = Current::FIRST;
     while at < end {
         let rest = &slice[at..];
         match block_slice::judge_next(rest, number) {
@@ -73,7 +70,7 @@ fn judge_blocks(slice: &[u8]) -> Measured
             }
         }
     }
-    Measured::Size(packing::bytes_to(current))
+    Measured::Size(current.bytes_to())
 }
 
 // Seals the current block where it stands in the output.
@@ -92,7 +89,7 @@ fn make_room(out: &mut [u8], current: Current, k: Words) -> Current
     ensures { RoomMade out.old current k.0 out.new result }
 {
     let start = current.start.0;
-    let next = packing::room_for(current, k);
+    let next = current.room_for(k);
     // It is still the same block.
     if next.start.0 == start {
         return next;
@@ -112,7 +109,7 @@ fn put_record(whole: &[u8], out: &mut [u8], current: Current) -> Current
     let before = room.used.0 + 1;
     let at = start + units::bytes_of_words(Words(before)).0;
     words::write_bytes(whole, out, Bytes(at));
-    packing::with_record(room, k)
+    room.with_record(k)
 }
 
 // Puts the records of an accepted block behind those that stand in the output.
@@ -140,10 +137,7 @@ fn write_blocks(slice: &[u8], out: &mut [u8])
 {
     let total = slice.len();
     let mut at = 0;
-    let mut current = Current {
-        start: Bytes(0),
-        used: Words(0),
-    };
+    let mut current = Current::FIRST;
     while at < total {
         let rest = &slice[at..];
         let size = units::bytes_of_words(block_slice::stated_words(rest)).0;
