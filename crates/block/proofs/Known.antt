@@ -10,7 +10,7 @@ use lib.Count.{ones, ones-le}
 use lib.Dec.{ltb, eqb}
 use lib.ListN.{length, take}
 use lib.Seq.{length-slice}
-use Rattle.std.specs.Prelude.{if◌then◌else◌}
+use Rattle.std.specs.Prelude.{Result, Ok, if◌then◌else◌}
 use Rattle.units.specs.declared.Answer.{Answer}
 use Rattle.units.specs.Answers.{answer, Verdict, passed, refused, onward}
 use Rattle.units.proofs.Told.{Told, Known}
@@ -24,13 +24,12 @@ use Rattle.counts.specs.Counts.{counts_of, words_needed, in_range}
 use Rattle.record.specs.Judging.{card_word, wrong_total, wrong_data_total, judge_content, judge_cards, judge_counts, judge_data, judge_record}
 use Rattle.record.proofs.Passed.{total_right}
 use Rattle.block.specs.Cases.{BlockRow, judged_of}
-use Rattle.block.specs.declared.Judged.{Judged}
-use Rattle.block.specs.declared.Judged.TheVariants.{Records}
+use Rattle.block.specs.declared.Refusal.{Refusal}
 use Rattle.block.specs.Judging.{wrong_size, inner, checksum_of, walk, judge_words, judged, Accepted}
 use Rattle.block.proofs.Size.{SizeRight, size_right}
 
 -- what the judge returned, of a block that it accepts
-pub accepted_by : (b : List ℕ) {j : Judged} {k : ℕ} → judged_of j ≡ judged b → j ≡ Records k → Accepted b
+pub accepted_by : (b : List ℕ) {j : Result ℕ Refusal} {k : ℕ} → judged_of j ≡ judged b → j ≡ Ok k → Accepted b
 accepted_by b e is = record { count = _; is = sym e ∙ ap judged_of is }
 
 -- the answer of the judge: its number is one of the paper's, and the others have room

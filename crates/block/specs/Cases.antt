@@ -1,12 +1,10 @@
 -- The paper's numbers for each case of what is found of a block.
-use Rattle.std.specs.Prelude.{ℕ, ◌≤◌}
+use Rattle.std.specs.Prelude.{ℕ, ◌≤◌, Result, Ok, Err}
 use Rattle.units.specs.declared.Answer.{Answer}
 use Rattle.units.specs.Answers.{answer, Verdict, passed, refused}
 use Rattle.record.specs.Cases.{fault_of}
 use Rattle.block.specs.declared.Refusal.{Refusal}
 use Rattle.block.specs.declared.Refusal.TheVariants.{Size, WordCount, Checksum, Record}
-use Rattle.block.specs.declared.Judged.{Judged}
-use Rattle.block.specs.declared.Judged.TheVariants.{Records, Refused}
 
 -- "Order for a block: 1, 2, 3, then each record: 4, 5, 6, 7, 8, 9"
 abbrev pub BlockRow : ℕ → Type 0
@@ -20,6 +18,6 @@ refusal_of (Checksum bits) = answer 3 0 0 bits
 refusal_of (Record f) = fault_of f
 
 -- "Success is n = 0 with a = records (judge)"; or the refusal
-abbrev pub judged_of : Judged → Verdict ℕ
-judged_of (Records k) = passed k
-judged_of (Refused r) = refused (refusal_of r)
+abbrev pub judged_of : Result ℕ Refusal → Verdict ℕ
+judged_of (Ok k) = passed k
+judged_of (Err r) = refused (refusal_of r)

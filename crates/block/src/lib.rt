@@ -7,8 +7,9 @@ ghost use Rattle.words.specs.Words.{words_of, most_words};
 ghost use Rattle.block.specs.Judging.{wrong_size, walk, judge_words};
 ghost use Rattle.block.specs.Cases.{refusal_of, judged_of};
 ghost use Rattle.block.specs.Promises.{Judges};
+ghost use Rattle.block.specs.declared.Refusal.TheVariants.{Record};
 
-use record::{Checked, Fault};
+use record::Fault;
 use units::{Answer, Bytes, Words};
 
 // Why a block is refused: its frame, or one of its records.
@@ -20,11 +21,12 @@ pub enum Refusal {
     Record(Fault),
 }
 
-// What is found of a block: its records, or the first refusal.
-#[derive(Clone, Copy)]
-pub enum Judged {
-    Records(u16),
-    Refused(Refusal),
+impl From<Fault> for Refusal {
+    ghost from_gives = { λ f r. r ≡ Record f };
+
+    fn from(f: Fault) -> Refusal {
+        Refusal::Record(f)
+    }
 }
 
 // A byte count that is odd, under 36 or over 16,000.
@@ -42,7 +44,7 @@ fn wrong_size(size: Bytes) -> bool
 }
 
 // The records of a block, which fill the words between its first and its last.
-fn judge_records(inner: &[u8]) -> Judged
+fn judge_records(inner: &[u8]) -> Result<u16, Refusal>
     requires { length (words_of inner.now) ≤ most_words }
     ensures { judged_of result ≡ walk 0 1 (words_of inner.now) }
 {
@@ -51,22 +53,17 @@ fn judge_records(inner: &[u8]) -> Judged
     let mut at = 0;
     let mut number: u16 = 1;
     while at < end {
-        match record::judge_record(words::span(inner, Words(at), last), number) {
-            Checked::Refused(f) => return Judged::Refused(Refusal::Record(f)),
-            Checked::Passed(size) => {
-                let k = size.0;
-                at = at + k;
-                number += 1;
-            }
-        }
+        let size = record::judge_record(words::span(inner, Words(at), last), number)?;
+        at += size.0;
+        number += 1;
     }
     let count = number - 1;
-    Judged::Records(count)
+    Ok(count)
 }
 
 // Judges the checksum and the records of a block whose size and length word are right.
 #[tactic(auto, using(crate::proofs::Summed::words_front, crate::proofs::Summed::words_inner))]
-fn judge_words(block: &[u8]) -> Judged
+fn judge_words(block: &[u8]) -> Result<u16, Refusal>
     requires { (18 ≤ length (words_of block.now)) × (length (words_of block.now) ≤ most_words) }
     ensures { judged_of result ≡ judge_words (words_of block.now) }
 {
@@ -76,34 +73,34 @@ fn judge_words(block: &[u8]) -> Judged
     let checksum = words::exclusive_or(words::span(block, Words(0), last));
     if stored != checksum {
         let bits = u16::count_ones(stored ^ checksum) as u16;
-        return Judged::Refused(Refusal::Checksum(bits));
+        return Err(Refusal::Checksum(bits));
     }
     judge_records(words::span(block, Words(1), last))
 }
 
 // Judges a block: whether it keeps the rules of the format, and how many records it has.
 #[tactic(auto, unfolding(crate::specs::Judging::judged))]
-pub fn judge(block: &[u8]) -> Judged
+pub fn judge(block: &[u8]) -> Result<u16, Refusal>
     ensures { Judges block.now result }
 {
     if wrong_size(Bytes(block.len())) {
-        return Judged::Refused(Refusal::Size);
+        return Err(Refusal::Size);
     }
     let stated = units::words_said(words::word_at(block, Words(0))).0;
     let there = words::count(block).0;
     if stated != there {
-        return Judged::Refused(Refusal::WordCount);
+        return Err(Refusal::WordCount);
     }
     judge_words(block)
 }
 
 // The four numbers of an answer.
-pub fn numbers(j: Judged) -> Answer
+pub fn numbers(j: Result<u16, Refusal>) -> Answer
     ensures { (result ≡ answered (judged_of j)) × (result.a < 65536) }
 {
     match j {
-        Judged::Records(k) => units::row(0, k, 0, 0),
-        Judged::Refused(r) => refusal_numbers(r),
+        Ok(k) => units::row(0, k, 0, 0),
+        Err(r) => refusal_numbers(r),
     }
 }
 

@@ -1,11 +1,10 @@
 -- The paper's numbers for each case of what is found of a record.
-use Rattle.std.specs.Prelude.{ℕ}
+use Rattle.std.specs.Prelude.{ℕ, Result, Ok, Err}
 use Rattle.units.specs.declared.Answer.{Answer}
 use Rattle.units.specs.Answers.{answer, Verdict, passed, refused}
 use Rattle.record.specs.declared.Fault.{Fault}
 use Rattle.record.specs.declared.Fault.TheVariants.{Short, Kind, Total, NotZero, Card, Counts}
-use Rattle.record.specs.declared.Checked.{Checked}
-use Rattle.record.specs.declared.Checked.TheVariants.{Passed, Refused}
+use Rattle.units.specs.declared.Words.{Words}
 
 -- rows 4 to 9: n, the record's number, the word's number
 abbrev pub fault_of : Fault → Answer
@@ -17,6 +16,6 @@ fault_of (Card k w) = answer 8 k w 0
 fault_of (Counts k w) = answer 9 k w 0
 
 -- a good record's words, or the refusal
-abbrev pub checked_of : Checked → Verdict ℕ
-checked_of (Passed size) = passed size.0
-checked_of (Refused f) = refused (fault_of f)
+abbrev pub checked_of : Result Words Fault → Verdict ℕ
+checked_of (Ok size) = passed size.0
+checked_of (Err f) = refused (fault_of f)

@@ -30,13 +30,6 @@ pub enum Fault {
     Counts(u16, u16),
 }
 
-// What is found of a record: it is good, with its words, or its block is refused.
-#[derive(Clone, Copy)]
-pub enum Checked {
-    Passed(Words),
-    Refused(Fault),
-}
-
 // LTOT of a Catalogue or a Header is no multiple of 40 from 40 on, or more than is left.
 fn wrong_total(total: Words, left: Words) -> bool
     ensures { result ≡ wrong_total total.0 left.0 }
@@ -61,7 +54,7 @@ fn passing_in(rest: &[u8], from: Words, upto: Words, least: u16, most: u16) -> W
 }
 
 // The content of a Catalogue or a Header of `total` words: zeros from word `first` to 40, then cards.
-fn judge_content(rest: &[u8], number: u16, first: Words, total: Words) -> Checked
+fn judge_content(rest: &[u8], number: u16, first: Words, total: Words) -> Result<Words, Fault>
     requires { TotalRight total.0 (length (words_of rest.now)) × (total.0 < 65536) × (1 ≤ first.0) × (first.0 ≤ 40) }
     ensures { checked_of result ≡ judge_content number first.0 total.0 (words_of rest.now) }
 {
@@ -69,42 +62,42 @@ fn judge_content(rest: &[u8], number: u16, first: Words, total: Words) -> Checke
     let zeros = passing_in(rest, Words(z - 1), Words(40), 0, 0).0;
     if zeros < 41 - z {
         let word = z + zeros;
-        return Checked::Refused(Fault::NotZero(number, word as u16));
+        return Err(Fault::NotZero(number, word as u16));
     }
     let cards = passing_in(rest, Words(40), total, 32, 126).0;
     if cards < total.0 - 40 {
         let word = 41 + cards;
-        return Checked::Refused(Fault::Card(number, word as u16));
+        return Err(Fault::Card(number, word as u16));
     }
-    Checked::Passed(total)
+    Ok(total)
 }
 
 // A Catalogue or a Header, whose words from `first` to 40 must be zero.
-fn judge_cards(rest: &[u8], number: u16, first: Words) -> Checked
+fn judge_cards(rest: &[u8], number: u16, first: Words) -> Result<Words, Fault>
     requires { (16 ≤ length (words_of rest.now)) × (1 ≤ first.0) × (first.0 ≤ 40) }
     ensures { checked_of result ≡ judge_cards number first.0 (words_of rest.now) }
 {
     let total = units::words_said(words::word_at(rest, Words(0)));
     if wrong_total(total, words::count(rest)) {
-        return Checked::Refused(Fault::Total(number));
+        return Err(Fault::Total(number));
     }
     judge_content(rest, number, first, total)
 }
 
 // A Data record of `total` words, by its counts.
-fn judge_counts(number: u16, total: Words, c: Counts) -> Checked
+fn judge_counts(number: u16, total: Words, c: Counts) -> Result<Words, Fault>
     ensures { checked_of result ≡ judge_counts number total.0 c }
 {
     let right = counts::in_range(c);
     if right < 4 {
         let word = 13 + right;
-        return Checked::Refused(Fault::Counts(number, word));
+        return Err(Fault::Counts(number, word));
     }
     let needed = counts::words_needed(c).0;
     if total.0 != needed {
-        return Checked::Refused(Fault::Counts(number, 1));
+        return Err(Fault::Counts(number, 1));
     }
-    Checked::Passed(total)
+    Ok(total)
 }
 
 // LTOT of a Data record is under 16, or more than is left.
@@ -120,24 +113,24 @@ fn wrong_data_total(total: Words, left: Words) -> bool
 }
 
 // A Data record.
-fn judge_data(rest: &[u8], number: u16) -> Checked
+fn judge_data(rest: &[u8], number: u16) -> Result<Words, Fault>
     requires { 16 ≤ length (words_of rest.now) }
     ensures { checked_of result ≡ judge_data number (words_of rest.now) }
 {
     let total = units::words_said(words::word_at(rest, Words(0)));
     if wrong_data_total(total, words::count(rest)) {
-        return Checked::Refused(Fault::Total(number));
+        return Err(Fault::Total(number));
     }
     judge_counts(number, total, counts::counts_of(rest))
 }
 
 // The record that stands first in the rest of the record words.
-pub fn judge_record(rest: &[u8], number: u16) -> Checked
+pub fn judge_record(rest: &[u8], number: u16) -> Result<Words, Fault>
     ensures { checked_of result ≡ judge_record number (words_of rest.now) }
 {
     let left = words::count(rest).0;
     if left < 16 {
-        return Checked::Refused(Fault::Short(number));
+        return Err(Fault::Short(number));
     }
     let kind = words::word_at(rest, Words(1));
     if kind == CATALOGUE {
@@ -149,7 +142,7 @@ pub fn judge_record(rest: &[u8], number: u16) -> Checked
     if kind == DATA {
         return judge_data(rest, number);
     }
-    Checked::Refused(Fault::Kind(number))
+    Err(Fault::Kind(number))
 }
 
 // The lines of a good record.
