@@ -9,12 +9,11 @@ use borrow.Author.Tests.{eqb-false, lt-ltb, le-ltb, ne_eqb}
 use lib.Dec.{eqb}
 use lib.ListN.{length, get_or, take, drop, length-append, length-drop, get_or-append}
 use lib.Seq.{slice, drop-drop, take-append_seam, drop-append_seam, get_or-drop}
-use Rattle.std.specs.Prelude.{if◌then◌else◌}
+use Rattle.std.specs.Prelude.{None, if◌then◌else◌}
 use Rattle.units.specs.Answers.{passed}
 use Rattle.words.specs.Words.{words_of, word, joined, framed, All, Below, most_words}
 use Rattle.words.proofs.Lists.{part_slice}
 use Rattle.record.specs.Rules.{RecordOk}
-use Rattle.block_steps.specs.declared.Place.TheVariants.{NoMore}
 use Rattle.block.specs.Judging.{judged}
 use Rattle.block.specs.Records.{records_of}
 use Rattle.block_steps.specs.Steps.{place_of, step_of, past, find_of, placed}
@@ -71,11 +70,11 @@ module _ {ws : List ℕ} {at : ℕ} where
       }
 
   -- where none is left a step finds none
-  pub none_left : LeftFrom ws at [] → step_of ws at ≡ NoMore
+  pub none_left : LeftFrom ws at [] → step_of ws at ≡ None
   unfolding joined step_of
   none_left l = by (eqb (get_or ws at 0) 0) refl
     where
-      by : (t : Bool) → eqb (get_or ws at 0) 0 ≡ t → step_of ws at ≡ NoMore
+      by : (t : Bool) → eqb (get_or ws at 0) 0 ≡ t → step_of ws at ≡ None
       by true q = simp q
       by false q =
           let one : length ws ≡ at + 1 = omega (arith, length-drop at ws, ap length l.stand) in
@@ -86,7 +85,7 @@ unfolding find_of placed
 finds ws [] at zero l = refl
 finds ws [] at (suc n) l = rw (none_left l) (by (eqb n 0))
   where
-    by : (t : Bool) → (if t then NoMore else past NoMore (λ next. find_of ws next n)) ≡ NoMore
+    by : (t : Bool) → (if t then None else past None (λ next. find_of ws next n)) ≡ None
     by true = refl
     by false = refl
 finds ws (r ∷ rs) at zero l = refl
@@ -115,7 +114,7 @@ module _ (b : List ℕ) (k : ℕ) (bytes : Below 256 b) (accepted : judged b ≡
       → step_of (words_of b) (1 + length (joined before)) ≡ place_of (1 + length (joined before)) (length r)
   step_record before after r e = (first_left (others_left before (r ∷ after) e)).found
 
-  pub step_no_more : step_of (words_of b) (1 + length (joined (records_of b))) ≡ NoMore
+  pub step_no_more : step_of (words_of b) (1 + length (joined (records_of b))) ≡ None
   step_no_more = none_left (others_left (records_of b) [] (sym (append-nil (records_of b))))
 
   pub find_record : (n : ℕ) → find_of (words_of b) 1 n ≡ placed (records_of b) 1 n

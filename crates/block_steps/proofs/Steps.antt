@@ -1,56 +1,54 @@
 -- A step to the next record, and record n, a turn at a time.
-use mathlib.Core.Path.{◌≡◌, refl, sym}
+use mathlib.Core.Path.{◌≡◌, refl, sym, ap}
 use mathlib.Core.Bool.{Bool, true, false, ◌||◌}
 use mathlib.Core.List.{List}
-use Prim.Native.Nat.{ℕ, zero, suc, ◌+◌, ◌-◌, ◌≤◌, ◌<◌}
-use native.Mathlib.Numerals.{sub-one}
+use Prim.Native.Nat.{ℕ, ◌+◌, ◌-◌, ◌≤◌, ◌<◌}
+use native.Mathlib.Numerals.{add-one}
 use native.Mathlib.Omega.{arith}
 use borrow.Author.Tests.{ltb-false, eqb-false, ne_eqb}
 use lib.Dec.{ltb, eqb}
 use lib.ListN.{length, get_or, get_or-eq_default}
-use Rattle.std.specs.Prelude.{if◌then◌else◌}
+use Rattle.std.specs.Prelude.{Option, Some, None, if◌then◌else◌}
 use Rattle.units.proofs.Verdicts.{or_off}
-use Rattle.units.specs.declared.Words.{Words}
 use Rattle.block_steps.specs.declared.Place.{Place}
-use Rattle.block_steps.specs.declared.Place.TheVariants.{Record, NoMore}
 use Rattle.block_steps.specs.Steps.{place_of, step_of, past, find_of}
 
 -- behind the last word stands nothing
-pub step_beyond : (ws : List ℕ) (at : ℕ) → length ws ≤ at → step_of ws at ≡ NoMore
+pub step_beyond : (ws : List ℕ) (at : ℕ) → length ws ≤ at → step_of ws at ≡ None
 unfolding step_of
 step_beyond ws at h = simp (get_or-eq_default ws 0 {n = at} h)
 
 -- a record that a step finds lies before the last word
-pub record FoundBefore (ws : List ℕ) (at place size : ℕ) : Type 0 where
-  pub here : place ≡ at
-  pub some : 1 ≤ size
-  pub within : at + size < length ws
+pub record FoundBefore (ws : List ℕ) (at : ℕ) (p : Place) : Type 0 where
+  pub here : p.at.0 ≡ at
+  pub some : 1 ≤ p.size.0
+  pub within : at + p.size.0 < length ws
 
-pub step_found : (ws : List ℕ) (at : ℕ) (place size : Words) → step_of ws at ≡ Record place size → FoundBefore ws at place.0 size.0
+pub step_found : (ws : List ℕ) (at : ℕ) (p : Place) → step_of ws at ≡ Some p → FoundBefore ws at p
 unfolding step_of
-step_found ws at place size e = by (eqb (get_or ws at 0) 0 || ltb (length ws - 1 - at) (get_or ws at 0)) refl e
+step_found ws at p e = by (eqb (get_or ws at 0) 0 || ltb (length ws - 1 - at) (get_or ws at 0)) refl e
   where
     by : (t : Bool) → (eqb (get_or ws at 0) 0 || ltb (length ws - 1 - at) (get_or ws at 0)) ≡ t
-        → (if t then NoMore else place_of at (get_or ws at 0)) ≡ Record place size → FoundBefore ws at place.0 size.0
+        → (if t then None else place_of at (get_or ws at 0)) ≡ Some p → FoundBefore ws at p
     by true f g = let z : ◌≡◌ {A = ℕ} 0 1 = cc in absurd (omega arith)
     by false f g =
         let o = or_off (eqb (get_or ws at 0) 0) _ f in
-        let p : at ≡ place.0 = cc in
-        let k : get_or ws at 0 ≡ size.0 = cc in
-        let some : 1 ≤ size.0 = omega (arith, eqb-false (get_or ws at 0) 0 o.0) in
-        record { here = sym p; some = some; within = omega (arith, ltb-false (length ws - 1 - at) (get_or ws at 0) o.1) }
+        let is : ◌≡◌ {A = Place} (record { at = record { 0 = at }; size = record { 0 = get_or ws at 0 } }) p = cc in
+        let here : at ≡ p.at.0 = ap (λ q. q.at.0) is in
+        let k : get_or ws at 0 ≡ p.size.0 = ap (λ q. q.size.0) is in
+        let some : 1 ≤ p.size.0 = omega (arith, eqb-false (get_or ws at 0) 0 o.0) in
+        record { here = sym here; some = some; within = omega (arith, ltb-false (length ws - 1 - at) (get_or ws at 0) o.1) }
 
 -- the first record from a place on is the one that stands there
 pub find_first : (ws : List ℕ) (at i : ℕ) → i ≡ 1 → find_of ws at i ≡ step_of ws at
 unfolding find_of
 find_first ws at i e = rw e refl
 
-pub find_none : (ws : List ℕ) (at i : ℕ) → i ≡ 0 → NoMore ≡ find_of ws at i
+pub find_none : (ws : List ℕ) (at i : ℕ) → i ≡ 0 → None ≡ find_of ws at i
 unfolding find_of
 find_none ws at i e = rw e refl
 
 -- for a later one the search goes on behind it, unless there is no more
-pub find_on : (ws : List ℕ) (at i : ℕ) {p : Place} → 1 < i → step_of ws at ≡ p → find_of ws at i ≡ past p (λ next. find_of ws next (i - 1))
+pub find_on : (ws : List ℕ) (at i : ℕ) {j : ℕ} {p : Option Place} → i ≡ j + 1 → 1 ≤ j → step_of ws at ≡ p → find_of ws at i ≡ past p (λ next. find_of ws next j)
 unfolding find_of
-find_on ws at zero h e = absurd (omega arith)
-find_on ws at (suc n) h e = rw (ne_eqb n 0 (λ z. omega arith), sub-one, e)
+find_on ws at i {j} e h s = rw (e, add-one, ne_eqb j 0 (λ z. omega arith), s) refl

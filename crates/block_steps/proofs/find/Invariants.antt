@@ -1,11 +1,8 @@
-use Rattle.std.proofs.Common.{◌≡◌, ◌≤◌}
+use Rattle.std.proofs.Common.{◌≡◌, ◌+◌, ◌-◌}
 use Rattle.words.specs.Words.{words_of}
 use Rattle.block_steps.specs.Steps.{find_of}
 use Rattle.block_steps.proofs.find.Given as goal
 
 -- what is found from here on is what is to be found
-abbrev pub invariant-loop-i : goal.invariant-loop-i
-invariant-loop-i l = record { some : 1 ≤ l.i; same : find_of (words_of l.block) 1 l.number ≡ find_of (words_of l.block) l.at l.i }
-
-abbrev pub decreases-loop-i : goal.decreases-loop-i
-decreases-loop-i l = l.i
+abbrev pub invariant-loop : goal.invariant-loop
+invariant-loop l = find_of (words_of l.block) 1 l.number ≡ find_of (words_of l.block) l.at (l.number + 1 - l.counter)
