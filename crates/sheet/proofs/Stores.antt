@@ -1,79 +1,60 @@
 -- What the code reads and stores in a sheet's bytes, over plain lists.
-use mathlib.Core.Path.{◌≡◌, sym, ap, ◌∙◌}
-use mathlib.Core.Bool.{Bool, true, false, not, ◌||◌}
-use mathlib.Core.List.{List, [], ◌∷◌, ◌++◌, append-nil}
-use Prim.Native.Nat.{ℕ, suc, ◌+◌, ◌-◌, ◌*◌, ◌≤◌, ◌<◌}
+use mathlib.Core.Path.{◌≡◌, refl, sym, ap, ◌∙◌}
+use mathlib.Core.Bool.{Bool, false, not, ◌||◌}
+use mathlib.Core.List.{List, [], ◌∷◌, ◌++◌, append_assoc}
+use Prim.Native.Nat.{ℕ, suc, ◌+◌, ◌*◌, ◌/◌, ◌%◌, ◌≤◌, ◌<◌}
+use Rattle.std.specs.List.{list_any}
+use Rattle.std.specs.Prelude.{if◌then◌else◌}
+use Rattle.std.proofs.lemmas.Bool.Decides.{nat_tests}
 use native.Mathlib.Numerals.{add-one}
 use native.Mathlib.Omega.{arith}
 use borrow.Author.Tests.{eq-eqb, ne_eqb}
-use lib.Dec.{eqb, ltb}
-use lib.ListN.{length, get_or, take, drop, set, replicate, length-drop, drop_of_length-le}
-use lib.Seq.{sets, slice, take_all, drop-drop, drop-length, drop-cons}
-use borrow.Author.Fill.{fill_more}
+use lib.Dec.{eqb}
+use lib.ListN.{length, get_or, take, drop, replicate, length-drop, drop_of_length-le}
+use lib.Seq.{sets, sets-eq, drop-drop, drop-cons}
+use borrow.Rule.Slice.PartMut.{put_mid}
 use Rattle.units.specs.Units.{bytes_of_words}
 use Rattle.units.specs.declared.Words.{Words}
 use Rattle.units.specs.Answers.{answer}
 use Rattle.words.specs.Words.{words_of, bytes_of, joined}
 use Rattle.words.specs.Outcomes.{leaves}
-use Rattle.words.proofs.Laws.{length_words_of, words-slice, zero_bytes}
-use Rattle.words.specs.Scans.{passing, is_zero, word_within}
-use Rattle.words.proofs.Scans.{scan_same, zero_within}
-use Rattle.sheet.specs.Sheets.{Layout, version1, sheet_bytes, sheet_with, sheet_of, number_at, count_in, numbers_in, entries_of, all_zero, wrong_mark, broken, started}
+use Rattle.words.proofs.Laws.{length_words_of, words-drop, zero_bytes}
+use Rattle.words.specs.Scans.{passing, is_zero}
+use Rattle.sheet.specs.Sheets.{Layout, version1, sheet_bytes, sheet_with, sheet_of, numbers_in, entries_of, all_zero, broken, started}
 use Rattle.sheet.specs.Rules.{KeepsLayout, Holds}
 use Rattle.sheet.proofs.Sheets.{unbroken, length_sheet}
 use Rattle.sheet.proofs.Entries.{entry_words}
 
--- the two bytes behind `at` bytes are a number
-pub number-words : (s : List ℕ) (at : ℕ) → at + 1 < length s → words_of (take (at + 2 - at) (drop at s)) ≡ number_at s at ∷ []
-unfolding words_of
-number-words s at h =
-    let two : at + 2 - at ≡ 2 = omega arith in
-    rw (two, drop-cons s at 0 (omega arith), add-one) (ap (λ l. words_of (get_or s at 0 ∷ take 1 l)) (drop-cons s (suc at) 0 (omega arith)))
-
 -- ---- what stands past the first `count` entries
 
--- nothing, where these are all
-pub past-none : (s : List ℕ) (count : ℕ) → length s ≡ 520 → 64 ≤ count → false ≡ not (all_zero (drop (count * 4) (numbers_in s)))
-unfolding all_zero passing
-past-none s count size h = rw (drop_of_length-le (numbers_in s) {i = count * 4} (omega (arith, length_words_of (drop 8 s), length-drop 8 s)))
+-- a byte is not zero
+abbrev pub stands : ℕ → Bool
+stands x = not (eqb x 0)
 
--- or the words of a part of the sheet
-module _ (s part : List ℕ) (count : ℕ) (from upto : Words) (size : length s ≡ 520) (e : from.0 ≡ 4 + count * 4) (f : upto.0 ≡ 260) (p : part ≡ slice (from.0 * 2) (upto.0 * 2) s) where
-  past_words : words_of part ≡ drop (count * 4) (numbers_in s)
-  past_words =
-      let all : slice 8 520 s ≡ drop 8 s = ap (drop 8) (take_all 520 s (omega (arith, size))) in
-      ap words_of p ∙ words-slice from.0 upto.0 s ∙ rw (e, f, ← all) (sym (drop-drop (count * 4) 4 (take 260 (words_of s))) ∙ ap (drop (count * 4)) (sym (words-slice 4 260 s)))
+-- some byte is not zero where some word is not
+word_stands : (x y n m : ℕ) (t : Bool) → t ≡ not (eqb n m) → (stands x || (stands y || t)) ≡ not (eqb (if eqb (x * 256 + y) 0 then suc n else 0) (suc m))
+word_stands x y n m t e = grind (arith, nat_tests)
 
-  -- of which as many are zero as there are
-  pub past_tested : (k n : Words) → k.0 ≡ passing (word_within 0 0) (words_of part) → n.0 ≡ length (words_of part) → not (eqb k.0 n.0) ≡ not (all_zero (drop (count * 4) (numbers_in s)))
-  unfolding all_zero
-  past_tested k n a b = rw (a, b, scan_same (word_within 0 0) is_zero zero_within (words_of part), past_words)
+some_stands : (b : List ℕ) → length b % 2 ≡ 0 → list_any stands b ≡ not (all_zero (words_of b))
+unfolding all_zero passing words_of
+some_stands [] e = refl
+some_stands (x ∷ []) e = absurd (omega arith)
+some_stands (x ∷ y ∷ b) e = word_stands x y (passing is_zero (words_of b)) (length (words_of b)) _ (some_stands b (omega arith))
+
+-- and these words are the numbers of the entries past the count
+pub past_stands : (s : List ℕ) (count before : ℕ) → length s ≡ 520 → before ≡ 8 + count * 8 → list_any stands (drop before s) ≡ not (all_zero (drop (count * 4) (numbers_in s)))
+past_stands s count before size e =
+    let at : before ≡ 8 + count * 4 * 2 = omega arith in
+    some_stands (drop before s) (omega (arith, length-drop before s))
+    ∙ ap (λ l. not (all_zero l)) (ap (λ n. words_of (drop n s)) at ∙ ap words_of (sym (drop-drop (count * 4 * 2) 8 s)) ∙ words-drop (count * 4) (drop 8 s))
 
 -- ---- the tests of a sheet
-
-module _ (s : List ℕ) where
-  pub wrong_size_lem : (length s ≡ 520 → ⊥) → true ≡ broken version1 s
-  unfolding broken
-  wrong_size_lem n = simp (ne_eqb (length s) 520 n)
-
-  pub other_tests : (mark past : Bool) (version count : ℕ) → length s ≡ 520 → mark ≡ wrong_mark s → version ≡ number_at s 3 → count ≡ count_in s → past ≡ not (all_zero (drop (count * 4) (numbers_in s)))
-      → (mark || (not (eqb version 1) || (ltb 64 count || (not (eqb (get_or s 7 0) 0) || past)))) ≡ broken version1 s
-  unfolding broken
-  other_tests mark past version count h m v c p = rw (eq-eqb (length s) 520 h, m, v, p, c)
 
 -- a sheet that is not broken has its size
 pub unbroken_size : (y : Layout) (s : List ℕ) (t : Bool) → t ≡ broken y s → t ≡ false → length s ≡ sheet_bytes y
 unbroken_size y s t e f = (unbroken y s (sym e ∙ f)).size
 
 -- ---- a sheet that is started
-
--- zeros up to here, and one more
-pub cleared_on : (s l : List ℕ) (i : ℕ) → l ≡ replicate i 0 ++ drop i s → i < length s → set l i 0 ≡ replicate (i + 1) 0 ++ drop (i + 1) s
-cleared_on s l i e h = ap (λ t. set t i 0) e ∙ fill_more i 0 s h
-
--- zeros up to the end
-pub cleared : (s l : List ℕ) (i : ℕ) → l ≡ replicate i 0 ++ drop i s → i ≡ length s → l ≡ replicate (length s) 0
-cleared s l i e h = e ∙ rw (h, drop-length s) (append-nil (replicate (length s) 0))
 
 module _ (s : List ℕ) where
   -- a sheet of another size
@@ -82,11 +63,20 @@ module _ (s : List ℕ) where
   start_refused n = simp (ne_eqb (length s) 520 n)
 
   -- 520 zeros, then mark and version
-  pub start_put : (l : List ℕ) → length s ≡ 520 → l ≡ replicate (length s) 0 → leaves (answer 0 0 0 0) (set (set (set (set l 0 65) 1 77) 2 68) 4 1) ≡ started version1 s
+  pub start_put : (zeros mark version : List ℕ) → length s ≡ 520 → zeros ≡ replicate (length s) 0 → mark ≡ 65 ∷ 77 ∷ 68 ∷ [] → version ≡ 0 ∷ 1 ∷ []
+      → leaves (answer 0 0 0 0) (put_mid 3 2 (mark ++ drop 3 zeros) version) ≡ started version1 s
   unfolding started sheet_of sheet_with bytes_of joined
-  start_put l h e = rw (e, eq-eqb (length s) 520 h, h) (ap (λ t. leaves (answer 0 0 0 0) (65 ∷ 77 ∷ 68 ∷ 0 ∷ 1 ∷ 0 ∷ 0 ∷ 0 ∷ t)) (sym (zero_bytes 256)))
+  start_put zeros mark version h z m v =
+      rw (z, m, v, eq-eqb (length s) 520 h, h) (ap (λ t. leaves (answer 0 0 0 0) (65 ∷ 77 ∷ 68 ∷ 0 ∷ 1 ∷ 0 ∷ 0 ∷ 0 ∷ t)) (sym (zero_bytes 256)))
 
 -- ---- the numbers of an entry
+
+-- the two bytes of a number, in place of two
+pub count_stored : (s two : List ℕ) (w : ℕ) → 7 ≤ length s → w < 65536 → two ≡ w / 256 % 256 ∷ w % 256 ∷ [] → put_mid 5 2 s two ≡ sets s 5 (bytes_of (w ∷ []))
+unfolding bytes_of
+count_stored s two w room fits e =
+    let high : w / 256 % 256 ≡ w / 256 = omega arith in
+    rw (e, high, drop-drop 2 5 s) (sym (sets-eq (w / 256 ∷ w % 256 ∷ []) s 5 (omega arith) ∙ append_assoc (take 5 s) (w / 256 ∷ w % 256 ∷ []) (drop 7 s)))
 
 -- one more of them is put
 pub number_put : (t l l' ns : List ℕ) (at k : ℕ) → k < length ns → l' ≡ sets l (bytes_of_words (at + k)) (bytes_of (get_or ns k 0 ∷ [])) → sets l (bytes_of_words (at + k)) (bytes_of (drop k ns)) ≡ t

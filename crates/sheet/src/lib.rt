@@ -1,12 +1,12 @@
 // The amendment sheet: its layout, its entries, and starting one.
 #![tactic(auto)]
 
-ghost use Rattle.std.specs.Prelude.{◌≡◌, not, [], ◌∷◌, ◌++◌, ◌+◌, ◌*◌, ◌≤◌, ◌<◌, length, get_or, take, drop, replicate};
+ghost use Rattle.std.specs.Prelude.{◌≡◌, not, [], ◌∷◌, ◌++◌, ◌+◌, ◌*◌, ◌≤◌, ◌<◌, length, get_or, take, drop};
 ghost use Rattle.std.proofs.lemmas.List.Edits.{sets};
 ghost use Rattle.units.specs.Units.{bytes_of_words};
 ghost use Rattle.units.specs.Answers.{answered};
 ghost use Rattle.words.specs.Words.{bytes_of};
-ghost use Rattle.sheet.specs.Sheets.{version1, sheet_bytes, sheet_of, number_at, numbers_in, entries_of, all_zero, wrong_mark, broken};
+ghost use Rattle.sheet.specs.Sheets.{version1, sheet_bytes, sheet_of, number_at, numbers_in, entries_of, all_zero, broken};
 ghost use Rattle.sheet.specs.Rules.{KeepsLayout, Holds};
 ghost use Rattle.sheet.specs.Cases.{entry_of, opened_of};
 ghost use Rattle.sheet.specs.Promises.{OpensSheet, StartsSheet};
@@ -21,8 +21,11 @@ const SIZE: usize = 520;
 // The most entries.
 pub const LIMIT: u16 = 64;
 
+// The three letters that a sheet begins with.
+const MARK: [u8; 3] = *b"AMD";
+
 // The numbers of an entry: record number, word number in the record, old value, new value.
-#[derive(Clone, Copy)]
+#[derive(Clone, Copy, Default)]
 pub struct Amendment {
     pub number: u16,
     pub word: u16,
@@ -30,39 +33,23 @@ pub struct Amendment {
     pub new: u16,
 }
 
-// What is found of a sheet: how many amendments stand, or that it does not keep its layout.
+// The sheet does not keep its layout.
 #[derive(Clone, Copy)]
-pub enum Opened {
-    Standing(u16),
-    Broken,
-}
+pub struct Broken;
 
 // The number behind `at` bytes.
 fn number_at(sheet: &[u8], at: Bytes) -> u16
     requires { at.0 + 1 < length sheet.now }
     ensures { result ≡ number_at sheet.now at.0 }
 {
-    let high = at.0;
-    let end = high + 2;
-    words::word_at(&sheet[high..end], Words(0))
-}
-
-// The first three bytes are not "AMD".
-fn wrong_mark(sheet: &[u8]) -> bool
-    requires { 8 ≤ length sheet.now }
-    ensures { result ≡ wrong_mark sheet.now }
-{
-    let first = sheet[0] != b'A';
-    let second = sheet[1] != b'M';
-    let third = sheet[2] != b'D';
-    first | (second | third)
+    u16::from_be_bytes([sheet[at.0], sheet[at.0 + 1]])
 }
 
 // The words of a sheet before entry `i`, counted from 0: its first 8 bytes are 4 words.
 fn before_entry(i: u16) -> Words
     ensures { result.0 ≡ 4 + i * version1.words }
 {
-    Words(4 + (i as usize) * 4)
+    Words(4 + usize::from(i) * 4)
 }
 
 // Something stands past the first `count` entries.
@@ -70,75 +57,56 @@ fn more_stands(sheet: &[u8], count: u16) -> bool
     requires { length sheet.now ≡ sheet_bytes version1 }
     ensures { result ≡ not (all_zero (drop (count * version1.words) (numbers_in sheet.now))) }
 {
-    if LIMIT <= count {
-        return false;
-    }
-    let rest = words::span(sheet, before_entry(count), before_entry(LIMIT));
-    let clear = words::first_outside(rest, 0, 0).0;
-    let all = words::count(rest).0;
-    clear != all
+    let before = units::bytes_of_words(before_entry(count)).0;
+    sheet.iter().skip(before).any(|byte| *byte != 0)
 }
 
-// The sheet does not keep its layout. Its tests are flags, with no early exit, so that the proof has no cases.
+// The sheet does not keep its layout.
 fn is_broken(sheet: &[u8]) -> bool
     ensures { result ≡ broken version1 sheet.now }
 {
     if sheet.len() != SIZE {
         return true;
     }
-    let mark = wrong_mark(sheet);
-    let version = number_at(sheet, Bytes(3)) != VERSION;
     let count = number_at(sheet, Bytes(5));
-    let many = LIMIT < count;
-    let byte = sheet[7] != 0;
-    let past = more_stands(sheet, count);
-    mark | (version | (many | (byte | past)))
+    !sheet.starts_with(&MARK)
+        || number_at(sheet, Bytes(3)) != VERSION
+        || LIMIT < count
+        || sheet[7] != 0
+        || more_stands(sheet, count)
 }
 
 // How many amendments stand in a sheet, if it keeps its layout.
-pub fn open(sheet: &[u8]) -> Opened
+pub fn open(sheet: &[u8]) -> Result<u16, Broken>
     ensures { OpensSheet sheet.now result }
 {
     if is_broken(sheet) {
-        return Opened::Broken;
+        return Err(Broken);
     }
-    Opened::Standing(number_at(sheet, Bytes(5)))
+    Ok(number_at(sheet, Bytes(5)))
 }
 
 // The four numbers of what is found of a sheet.
-pub fn numbers(o: Opened) -> Answer
+pub fn numbers(o: Result<u16, Broken>) -> Answer
     ensures { (result ≡ answered (opened_of o)) × (result.a < 65536) }
 {
     match o {
-        Opened::Standing(count) => units::row(0, count, 0, 0),
-        Opened::Broken => units::row(40, 0, 0, 0),
-    }
-}
-
-// Puts zeros in place of all bytes.
-fn clear(sheet: &mut [u8])
-    ensures { sheet.new ≡ replicate (length sheet.old) 0 }
-{
-    let mut i = 0;
-    while i < sheet.len() {
-        sheet[i] = 0;
-        i += 1;
+        Ok(count) => units::row(0, count, 0, 0),
+        Err(Broken) => units::row(40, 0, 0, 0),
     }
 }
 
 // Starts a sheet: no amendment stands in it.
-pub fn start(sheet: &mut [u8]) -> Opened
+pub fn start(sheet: &mut [u8]) -> Result<u16, Broken>
     ensures { StartsSheet sheet.old result sheet.new }
 {
     if sheet.len() != SIZE {
-        return Opened::Broken;
+        return Err(Broken);
     }
-    clear(sheet);
-    sheet[0] = b'A';
-    sheet[1] = b'M';
-    sheet[2] = b'D';
-    sheet[4] = VERSION as u8;
-    Opened::Standing(0)
+    sheet.fill(0);
+    sheet[..3].copy_from_slice(&MARK);
+    sheet[3..5].copy_from_slice(&VERSION.to_be_bytes());
+    Ok(0)
 }
 
 // Amendment `i`, counted from 0.
@@ -160,8 +128,7 @@ fn put_count(sheet: &mut [u8], count: u16)
     requires { length sheet.old ≡ sheet_bytes version1 }
     ensures { sheet.new ≡ sets sheet.old 5 (bytes_of (count ∷ [])) }
 {
-    sheet[5] = (count / 256) as u8;
-    sheet[6] = (count % 256) as u8;
+    sheet[5..7].copy_from_slice(&count.to_be_bytes());
 }
 
 // Puts the numbers of an amendment in place of entry `i`.
@@ -171,10 +138,8 @@ fn put_numbers(sheet: &mut [u8], i: u16, e: Amendment)
 {
     let at = before_entry(i).0;
     let numbers = [e.number, e.word, e.old, e.new];
-    let mut k = 0;
-    while k < 4 {
-        words::put_word(sheet, Words(at + k), numbers[k]);
-        k += 1;
+    for (k, number) in numbers.iter().enumerate() {
+        words::put_word(sheet, Words(at + k), *number);
     }
 }
 
@@ -192,12 +157,6 @@ pub fn clear_last(sheet: &mut [u8], left: u16)
     requires { Holds version1 sheet.old (left + 1) }
     ensures { sheet.new ≡ sheet_of version1 (take left (entries_of version1 sheet.old)) }
 {
-    let none = Amendment {
-        number: 0,
-        word: 0,
-        old: 0,
-        new: 0,
-    };
-    put_numbers(sheet, left, none);
+    put_numbers(sheet, left, Amendment::default());
     put_count(sheet, left);
 }

@@ -10,4 +10,6 @@ pub put_count-requires : goal.put_count-requires
 put_count-requires c = search holds_kept
 
 pub returns : goal.returns
-returns c = search entry_cleared
+returns c =
+    let z = c.default.ensures in
+    entry_cleared c.args.left c.requires (rw (z.0, z.1.0, z.1.1.0, z.1.1.1) at c.put_numbers.ensures) c.put_count.ensures

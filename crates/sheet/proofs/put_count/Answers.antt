@@ -1,7 +1,6 @@
-use mathlib.Core.Path.{refl}
-use Rattle.words.specs.Words.{bytes_of}
+use Rattle.std.proofs.Common.{◌∙◌, arith}
+use Rattle.sheet.proofs.Stores.{count_stored}
 use Rattle.sheet.proofs.put_count.Goals as goal
 
 pub returns : goal.returns
-unfolding bytes_of
-returns c = refl
+returns c = count_stored _ _ _ (omega arith) (omega arith) (c.copy_from_slice.ensures.after ∙ c.to_be_bytes.ensures)

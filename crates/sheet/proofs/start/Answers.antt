@@ -1,16 +1,9 @@
-use native.Mathlib.Omega.{arith}
-use lib.ListN.{length-set}
+use mathlib.Core.Path.{◌∙◌}
 use Rattle.sheet.proofs.Stores.{start_refused, start_put}
 use Rattle.sheet.proofs.start.Goals as goal
 
 pub returns-then-sheet-ne-SIZE : goal.returns-then-sheet-ne-SIZE
 returns-then-sheet-ne-SIZE c = search start_refused
 
-pub bounds-sheet-2 : goal.bounds-sheet-2
-bounds-sheet-2 c = simp length-set (omega arith)
-
-pub bounds-sheet-4 : goal.bounds-sheet-4
-bounds-sheet-4 c = simp length-set (omega arith)
-
 pub returns : goal.returns
-returns c = search start_put
+returns c = start_put _ _ _ _ c.if-sheet-ne-SIZE.false (c.fill.ensures.after (λ y e. e)) c.copy_from_slice.ensures.after (c.copy_from_slice-2.ensures.after ∙ c.to_be_bytes.ensures)
