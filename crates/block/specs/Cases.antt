@@ -1,7 +1,7 @@
 -- The paper's numbers for each case of what is found of a block.
-use Rattle.std.specs.Prelude.{ℕ, ◌≤◌, Result, Ok, Err}
+use Rattle.std.specs.Prelude.{ℕ, ◌≤◌, Result}
 use Rattle.units.specs.declared.Answer.{Answer}
-use Rattle.units.specs.Answers.{answer, Verdict, passed, refused}
+use Rattle.units.specs.Answers.{answer, Verdict, verdict_of}
 use Rattle.record.specs.Cases.{fault_of}
 use Rattle.block.specs.declared.Refusal.{Refusal}
 use Rattle.block.specs.declared.Refusal.TheVariants.{Size, WordCount, Checksum, Record}
@@ -19,5 +19,4 @@ refusal_of (Record f) = fault_of f
 
 -- "Success is n = 0 with a = records (judge)"; or the refusal
 abbrev pub judged_of : Result ℕ Refusal → Verdict ℕ
-judged_of (Ok k) = passed k
-judged_of (Err r) = refused (refusal_of r)
+judged_of = verdict_of (λ count. count) refusal_of

@@ -2,7 +2,7 @@
 #![tactic(auto)]
 
 ghost use Rattle.std.specs.Prelude.{◌≡◌, ◌<◌, ◌≤◌, length};
-ghost use Rattle.units.specs.Answers.{answered};
+ghost use Rattle.std.proofs.Common.{arith};
 ghost use Rattle.words.specs.Words.{words_of, most_words};
 ghost use Rattle.block.specs.Judging.{wrong_size, walk, judge_words};
 ghost use Rattle.block.specs.Cases.{refusal_of, judged_of};
@@ -10,7 +10,7 @@ ghost use Rattle.block.specs.Promises.{Judges};
 ghost use Rattle.block.specs.declared.Refusal.TheVariants.{Record};
 
 use record::Fault;
-use units::{Answer, Bytes, Words};
+use units::{Answer, Bytes, Numbered, Words};
 
 // Why a block is refused: its frame, or one of its records.
 #[derive(Clone, Copy)]
@@ -26,6 +26,23 @@ impl From<Fault> for Refusal {
 
     fn from(f: Fault) -> Refusal {
         Refusal::Record(f)
+    }
+}
+
+impl Numbered for Refusal {
+    ghost numbers_of = { refusal_of };
+
+    ghost room = { 65536 };
+
+    ghost packs = { Prim.omega arith };
+
+    fn numbers(self) -> Answer {
+        match self {
+            Refusal::Size => units::row(1, 0, 0, 0),
+            Refusal::WordCount => units::row(2, 0, 0, 0),
+            Refusal::Checksum(bits) => units::row(3, 0, 0, bits),
+            Refusal::Record(f) => f.numbers(),
+        }
     }
 }
 
@@ -92,26 +109,4 @@ pub fn judge(block: &[u8]) -> Result<u16, Refusal>
         return Err(Refusal::WordCount);
     }
     judge_words(block)
-}
-
-// The four numbers of an answer.
-pub fn numbers(j: Result<u16, Refusal>) -> Answer
-    ensures { (result ≡ answered (judged_of j)) × (result.a < 65536) }
-{
-    match j {
-        Ok(k) => units::row(0, k, 0, 0),
-        Err(r) => refusal_numbers(r),
-    }
-}
-
-// The four numbers of a refusal.
-pub fn refusal_numbers(r: Refusal) -> Answer
-    ensures { (result ≡ refusal_of r) × (result.a < 65536) }
-{
-    match r {
-        Refusal::Size => units::row(1, 0, 0, 0),
-        Refusal::WordCount => units::row(2, 0, 0, 0),
-        Refusal::Checksum(bits) => units::row(3, 0, 0, bits),
-        Refusal::Record(f) => record::numbers(f),
-    }
 }

@@ -1,7 +1,7 @@
 -- The paper's numbers for each case of what is found of a record.
-use Rattle.std.specs.Prelude.{ℕ, Result, Ok, Err}
+use Rattle.std.specs.Prelude.{ℕ, Result}
 use Rattle.units.specs.declared.Answer.{Answer}
-use Rattle.units.specs.Answers.{answer, Verdict, passed, refused}
+use Rattle.units.specs.Answers.{answer, Verdict, verdict_of}
 use Rattle.record.specs.declared.Fault.{Fault}
 use Rattle.record.specs.declared.Fault.TheVariants.{Short, Kind, Total, NotZero, Card, Counts}
 use Rattle.units.specs.declared.Words.{Words}
@@ -17,5 +17,4 @@ fault_of (Counts k w) = answer 9 k w 0
 
 -- a good record's words, or the refusal
 abbrev pub checked_of : Result Words Fault → Verdict ℕ
-checked_of (Ok size) = passed size.0
-checked_of (Err f) = refused (fault_of f)
+checked_of = verdict_of (λ size. size.0) fault_of

@@ -2,6 +2,7 @@
 #![tactic(auto)]
 
 ghost use Rattle.std.specs.Prelude.{◌≡◌, ◌+◌, ◌<◌, ◌≤◌, length};
+ghost use Rattle.std.proofs.Common.{arith};
 ghost use Rattle.std.proofs.Math.Seq.{slice};
 ghost use Rattle.words.specs.Words.{words_of};
 ghost use Rattle.words.specs.Scans.{passing, word_within};
@@ -11,7 +12,7 @@ ghost use Rattle.record.specs.Lines.{line_count};
 ghost use Rattle.record.specs.Values.{is_value};
 
 use counts::Counts;
-use units::{Answer, Lines, Words};
+use units::{Answer, Lines, Numbered, Words};
 
 pub const CATALOGUE: u16 = 2001;
 
@@ -28,6 +29,25 @@ pub enum Fault {
     NotZero(u16, u16),
     Card(u16, u16),
     Counts(u16, u16),
+}
+
+impl Numbered for Fault {
+    ghost numbers_of = { fault_of };
+
+    ghost room = { 65536 };
+
+    ghost packs = { Prim.omega arith };
+
+    fn numbers(self) -> Answer {
+        match self {
+            Fault::Short(k) => units::row(4, k, 1, 0),
+            Fault::Kind(k) => units::row(5, k, 2, 0),
+            Fault::Total(k) => units::row(6, k, 1, 0),
+            Fault::NotZero(k, w) => units::row(7, k, w, 0),
+            Fault::Card(k, w) => units::row(8, k, w, 0),
+            Fault::Counts(k, w) => units::row(9, k, w, 0),
+        }
+    }
 }
 
 // LTOT of a Catalogue or a Header is no multiple of 40 from 40 on, or more than is left.
@@ -165,18 +185,4 @@ pub fn is_value(whole: &[u8], word: Words) -> bool
         return false;
     }
     counts::among_values(word, counts::counts_of(whole))
-}
-
-// The four numbers of a fault.
-pub fn numbers(f: Fault) -> Answer
-    ensures { (result ≡ fault_of f) × (result.a < 65536) }
-{
-    match f {
-        Fault::Short(k) => units::row(4, k, 1, 0),
-        Fault::Kind(k) => units::row(5, k, 2, 0),
-        Fault::Total(k) => units::row(6, k, 1, 0),
-        Fault::NotZero(k, w) => units::row(7, k, w, 0),
-        Fault::Card(k, w) => units::row(8, k, w, 0),
-        Fault::Counts(k, w) => units::row(9, k, w, 0),
-    }
 }

@@ -1,6 +1,9 @@
 -- Document 01, "Answer numbers": the four numbers, their packing, and judgements that stop at the first refusal.
-use Rattle.std.specs.Prelude.{ℕ, ◌+◌, ◌*◌, ◌/◌, ◌%◌, ◌^◌, ◌<◌}
+use Rattle.std.specs.Prelude.{ℕ, Result, Ok, Err, ◌+◌, ◌*◌, ◌/◌, ◌%◌, ◌^◌, ◌<◌}
 use Rattle.units.specs.declared.Answer.{Answer}
+use Rattle.units.specs.declared.Bytes.{Bytes}
+use Rattle.units.specs.declared.Unwritten.{Unwritten}
+use Rattle.units.specs.declared.Unwritten.TheVariants.{Refused, Short}
 
 -- "Each answer is four numbers: n, a, b, c"
 abbrev pub answer : ℕ → ℕ → ℕ → ℕ → Answer
@@ -20,6 +23,17 @@ onward (refused r) f = refused r
 abbrev pub answered : Verdict ℕ → Answer
 answered (passed a) = answer 0 a 0 0
 answered (refused r) = r
+
+-- what a function returns, as a judgement: its value, or its refusal's numbers
+abbrev pub verdict_of : {A B E : Type 0} → (A → B) → (E → Answer) → Result A E → Verdict B
+verdict_of value numbers (Ok x) = passed (value x)
+verdict_of value numbers (Err e) = refused (numbers e)
+
+-- a conversion's answer: the bytes written; the refusal's numbers; row `short` with the bytes needed
+abbrev pub written_of : {R : Type 0} → ℕ → (R → Answer) → Result Bytes (Unwritten R) → Answer
+written_of short numbers (Ok size) = answer 0 size.0 0 0
+written_of short numbers (Err (Refused r)) = numbers r
+written_of short numbers (Err (Short size)) = answer short size.0 0 0
 
 -- "as one unsigned 64-bit number, 2^56 n + 2^32 a + 2^16 b + c"
 abbrev pub packed_of : Answer → ℕ

@@ -5,6 +5,10 @@ ghost use Rattle.std.specs.Prelude.{◌≡◌, ◌+◌, ◌*◌, ◌/◌, ◌^�
 ghost use Rattle.units.specs.Units.{bytes_of_words, words_of_bytes, lines_of_cards, words_of_cards, lines_of_fields, columns_of_fields, ends_of_lines};
 ghost use Rattle.units.specs.Answers.{answer, fitted, packed_of};
 
+mod numbered;
+
+pub use crate::numbered::{Numbered, written};
+
 // A count of 16-bit words, as LTOT of a binary record.
 #[derive(Clone, Copy)]
 pub struct Words(pub usize);

@@ -1,11 +1,9 @@
-use Prim.Native.Nat.{◌+◌, ◌≤◌}
-use mathlib.Core.Path.{refl, ap, ◌∙◌}
+use mathlib.Core.Path.{refl, ap}
 use native.Mathlib.Omega.{arith}
 use Rattle.std.proofs.lemmas.Result.{err_from_is_err_and}
 use Rattle.record.specs.Cases.{checked_of}
-use Rattle.block.specs.Cases.{judged_of}
 use Rattle.words.proofs.Laws.{length_words_of}
-use Rattle.block.proofs.Walk.{Judging, all-judged, judged-stop, judged-on}
+use Rattle.block.proofs.Walk.{all-judged, judged-stop, judged-on}
 use Rattle.block.proofs.judge_records.Goals as goal
 
 pub loop-at-init : goal.loop-at-init
