@@ -7,26 +7,33 @@ use native.Mathlib.Numerals.{add-one}
 use native.Mathlib.Omega.{arith}
 use lib.ListN.{length, take, set, length-set}
 use lib.Seq.{take-suc-set}
-use Rattle.units.specs.Answers.{answer, Verdict, passed, refused, onward}
-use Rattle.field.specs.declared.Number.{Number}
-use Rattle.field.specs.declared.Number.TheVariants.{Word, Bad}
+use Rattle.std.specs.Prelude.{Option, Some, None, Result, Ok, Err, ok_or}
+use Rattle.units.specs.Answers.{Verdict, passed, refused, onward}
+use Rattle.units.specs.declared.Lines.{Lines}
+use Rattle.units.specs.declared.Bytes.{Bytes}
 use Rattle.field.specs.Reading.{read_field, columns}
+use Rattle.read_columns.specs.declared.Flaw.{Flaw}
+use Rattle.read_columns.specs.declared.Flaw.TheVariants.{Field}
+use Rattle.read_columns.specs.Cases.{flaw_of, read_of}
 use Rattle.read_columns.specs.Columns.{column_of, word_in, number, field_numbers}
 
 -- the fields from field k on, put behind the k first words of a row
 unfoldable pub filled : ℕ → List ℕ → ℕ → ℕ → List ℕ → Verdict (List ℕ)
 filled num l k m row = onward (field_numbers num l k m) (λ ws. passed (take k row ++ ws))
 
--- the field behind `at` columns holds this number
-pub number_is : (num : ℕ) (l : List ℕ) (k : ℕ) (n : Number) (at : ℕ) → at ≡ 6 * k → n ≡ read_field (columns 6 l at) → number num l k ≡ word_in num k n
+-- the field behind `at` columns holds this number, or none
+pub number_read : (num : Lines) (l : List ℕ) (k : ℕ) (w : Option ℕ) {at : ℕ} {column : Bytes} {r : Result ℕ Flaw} → at ≡ 6 * k → w ≡ read_field (columns 6 l at) → column.0 ≡ column_of k → r ≡ ok_or w (Field num column) → read_of r ≡ number num.0 l k
 unfolding number
-number_is num l k n at e r = rw (sym e, sym r)
+number_read num l k w {at = at} {column = column} {r = r} e read c told = ap read_of told ∙ by w column.0 c ∙ ap (word_in num.0 k) (rw e at read)
+  where
+    by : (w : Option ℕ) (n : ℕ) → n ≡ column_of k → read_of (ok_or w (Field num (record { 0 = n }))) ≡ word_in num.0 k w
+    by (Some w) n c = refl
+    by None n c = rw c
 
 -- where the loop stands: the fields from field k on give what those from `from` on do
 pub record Filling (num : ℕ) (l row₀ : List ℕ) (from end k : ℕ) (row : List ℕ) : Type 0 where
   pub most : k ≤ end
-  pub few : end ≤ 20
-  pub long : length row ≡ 20
+  pub long : end ≤ length row
   pub same : filled num l k (end - k) row ≡ filled num l from (end - from) row₀
 
 module _ {num : ℕ} {l row₀ : List ℕ} {from k : ℕ} {row : List ℕ} (count : ℕ) (g : Filling num l row₀ from (from + count) k row) where
@@ -41,27 +48,26 @@ module _ {num : ℕ} {l row₀ : List ℕ} {from k : ℕ} {row : List ℕ} (coun
       let none : from + count - k ≡ 0 = omega arith in
       ap (λ n. passed (take n row)) e ∙ rw (none, append-nil) at whole
 
-  -- by the number in the next field
-  module _ (n : Number) {at : ℕ} (e : at ≡ 6 * k) (r : n ≡ read_field (columns 6 l at)) (h : k < from + count) where
+  -- by what is read of the next field
+  module _ (r : Result ℕ Flaw) (found : read_of r ≡ number num l k) (h : k < from + count) where
     left : from + count - k ≡ suc (from + count - (k + 1))
     left = omega arith
 
-    pub fill-bad : {column : ℕ} → n ≡ Bad → column ≡ column_of k → refused (answer 22 num column 0) ≡ filled num l from count row₀
+    pub fill-bad : {f : Flaw} → r ≡ Err f → refused (flaw_of f) ≡ filled num l from count row₀
     unfolding filled field_numbers
-    fill-bad b c = rw c (rw (left, number_is num l k n at e r, b) at whole)
+    fill-bad e = rw (left, sym found, e) at whole
 
-    pub fill-word : {w : ℕ} → n ≡ Word w → Filling num l row₀ from (from + count) (k + 1) (set row k w)
+    pub fill-word : {w : ℕ} → r ≡ Ok w → Filling num l row₀ from (from + count) (k + 1) (set row k w)
     unfolding filled field_numbers
-    fill-word {w} b =
+    fill-word {w} e =
         record {
           most = omega arith;
-          few = g.few;
-          long = length-set row k w ∙ g.long;
-          same = sym (rw (left, number_is num l k n at e r, b, add-one, take-suc-set row k w room) (behind (field_numbers num l (suc k) (from + count - suc k)))) ∙ g.same;
+          long = omega (arith, g.long, length-set row k w);
+          same = sym (rw (left, sym found, e, add-one, take-suc-set row k w room) (behind (field_numbers num l (suc k) (from + count - suc k)))) ∙ g.same;
         }
       where
         room : k < length row
-        room = omega (arith, g.long, g.few)
+        room = omega (arith, g.long)
 
         behind : (v : Verdict (List ℕ)) → onward (onward v (λ ws. passed (w ∷ ws))) (λ ws. passed (take k row ++ ws)) ≡ onward v (λ ws. passed (take k row ++ (w ∷ []) ++ ws))
         behind (passed ws) = ap (λ x. passed x) (sym (append_assoc (take k row) (w ∷ []) ws))

@@ -5,10 +5,9 @@ use Prim.Native.Nat.{ℕ, suc, ◌+◌, ◌-◌, ◌≤◌, ◌<◌}
 use native.Mathlib.Nat.{add-sub_cancel_left}
 use native.Mathlib.Numerals.{add-one}
 use native.Mathlib.Omega.{arith}
+use Rattle.std.specs.Prelude.{Result, Ok, Err}
 use Rattle.units.specs.Answers.{passed, refused}
 use Rattle.read_columns.specs.declared.Flaw.{Flaw}
-use Rattle.read_columns.specs.declared.Tested.{Tested}
-use Rattle.read_columns.specs.declared.Tested.TheVariants.{Good, Flawed}
 use Rattle.read_columns.specs.Cases.{flaw_of, tested_of}
 use Rattle.read_columns.specs.Columns.{zero_field, zero_fields}
 
@@ -26,14 +25,14 @@ module _ {num : ℕ} {l : List ℕ} {from k : ℕ} (count : ℕ) (g : Zeroing nu
   zeros-done h = let none : from + count - k ≡ 0 = omega arith in rw none at whole
 
   -- by what is found of the next field
-  module _ (h : k < from + count) (r : Tested) (found : tested_of tt r ≡ zero_field num l k) where
+  module _ (h : k < from + count) (r : Result (Unit {0}) Flaw) (found : tested_of tt r ≡ zero_field num l k) where
     left : from + count - k ≡ suc (from + count - (k + 1))
     left = omega arith
 
-    pub zeros-on : r ≡ Good → Zeroing num l from (from + count) (k + 1)
+    pub zeros-on : {u : Unit {0}} → r ≡ Ok u → Zeroing num l from (from + count) (k + 1)
     unfolding zero_fields
     zeros-on e = record { most = omega arith; same = sym (rw (left, sym found, e, add-one)) ∙ g.same }
 
-    pub zeros-bad : {f : Flaw} → r ≡ Flawed f → refused (flaw_of f) ≡ zero_fields num l from count
+    pub zeros-bad : {f : Flaw} → r ≡ Err f → refused (flaw_of f) ≡ zero_fields num l from count
     unfolding zero_fields
     zeros-bad e = rw (left, sym found, e) at whole

@@ -1,12 +1,10 @@
 -- Document 01, "Read form" and rows 20, 22 and 26: what stands in the columns of a line. `num` is the line's number in the text.
-use Rattle.std.specs.Prelude.{ℕ, zero, suc, ◌+◌, min, List, [], ◌∷◌, Bool, ltb, leb, eqb, length, take, drop}
+use Rattle.std.specs.Prelude.{ℕ, zero, suc, ◌+◌, min, List, [], ◌∷◌, Bool, ltb, leb, eqb, length, take, drop, Option, Some, None}
 use Rattle.std.specs.Prelude.{if◌then◌else◌}
 use Rattle.units.specs.Units.{columns_of_fields, Line}
 use Rattle.units.specs.Answers.{answer, Verdict, passed, refused, onward}
 use Rattle.words.specs.Scans.{passing, plain_in}
 use Rattle.field.specs.Reading.{read_field, columns}
-use Rattle.field.specs.declared.Number.{Number}
-use Rattle.field.specs.declared.Number.TheVariants.{Word, Bad}
 
 -- row n, 20 or 26: the first c columns of line num are right, and the next, where the line has one, is the "first such column"
 unfoldable pub right_to : ℕ → ℕ → Line → ℕ → Verdict (Unit {0})
@@ -41,9 +39,9 @@ abbrev pub column_of : ℕ → ℕ
 column_of k = columns_of_fields k + 1
 
 -- row 22: "bad number field: line, field's first column"
-abbrev pub word_in : ℕ → ℕ → Number → Verdict ℕ
-word_in num k (Word w) = passed w
-word_in num k Bad = refused (answer 22 num (column_of k) 0)
+abbrev pub word_in : ℕ → ℕ → Option ℕ → Verdict ℕ
+word_in num k (Some w) = passed w
+word_in num k None = refused (answer 22 num (column_of k) 0)
 
 -- the number in the field with k fields before it
 unfoldable pub number : ℕ → Line → ℕ → Verdict ℕ

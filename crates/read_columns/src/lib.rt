@@ -1,14 +1,14 @@
 // What stands in the columns of a line of text.
 #![tactic(auto)]
 
-ghost use Rattle.std.specs.Prelude.{◌≡◌, ◌++◌, ◌+◌, ◌^◌, ◌≤◌, ◌<◌, min, length, take};
+ghost use Rattle.std.specs.Prelude.{◌≡◌, ◌++◌, ◌+◌, ◌^◌, ◌≤◌, ◌<◌, length, take, take_while};
+ghost use Rattle.std.proofs.Common.{arith};
 ghost use Rattle.units.specs.Answers.{answer, fitted, passed, onward};
 ghost use Rattle.words.specs.Scans.{plain_in};
-ghost use Rattle.read_columns.specs.Columns.{plain_to, blank_to, blank_after, blank_line, column_of, field_numbers, blank_field, zero_field, zero_fields};
-ghost use Rattle.read_columns.specs.Cases.{flaw_of, tested_of};
+ghost use Rattle.read_columns.specs.Columns.{plain_to, is_blank, blank_to, blank_after, blank_line, column_of, number, field_numbers, blank_field, zero_field, zero_fields};
+ghost use Rattle.read_columns.specs.Cases.{flaw_of, read_of, tested_of};
 
-use field::Number;
-use units::{Answer, Bytes, Lines, Words};
+use units::{Answer, Bytes, Lines, Numbered, Words};
 
 // Why a text is refused: the line and, where it is not always the same, the column, both counted from 1.
 #[derive(Clone, Copy)]
@@ -25,59 +25,41 @@ pub enum Flaw {
     Long,
 }
 
-// What is found of some columns.
-#[derive(Clone, Copy)]
-pub enum Tested {
-    Good,
-    Flawed(Flaw),
-}
+impl Numbered for Flaw {
+    ghost numbers_of = { λ f. fitted (flaw_of f) };
 
-// The columns before the first that is past 120 or not plain, of a line that begins with `plain` plain bytes.
-pub fn plain_to(line: &[u8], plain: Bytes) -> Bytes
-    requires { plain.0 ≡ plain_in line.now }
-    ensures { result.0 ≡ plain_to line.now }
-{
-    Bytes(lesser(120, plain.0))
-}
+    ghost room = { 2 ^ 24 };
 
-// The lesser of two numbers.
-fn lesser(a: usize, b: usize) -> usize
-    ensures { result ≡ min a b }
-{
-    if a < b { a } else { b }
-}
+    ghost packs = { Prim.omega arith };
 
-// The columns before the first that is not blank, of those after the first `from`.
-fn blank_to(line: &[u8], from: Bytes) -> usize
-    ensures { result ≡ blank_to from.0 line.now }
-{
-    let mut i = from.0;
-    while i < line.len() {
-        if line[i] != b' ' {
-            return i;
+    fn numbers(self) -> Answer {
+        match self {
+            Flaw::Byte(line, column) => at_column(20, line, column),
+            Flaw::NoRecord => at_column(21, Lines(0), Bytes(0)),
+            Flaw::Field(line, column) => at_column(22, line, column),
+            Flaw::Kind(line) => at_column(23, line, Bytes(7)),
+            Flaw::Count(line) => at_column(24, line, Bytes(1)),
+            Flaw::Ends(line) => at_column(25, line, Bytes(1)),
+            Flaw::NotBlank(line, column) => at_column(26, line, column),
+            Flaw::Range(line, column) => at_column(27, line, column),
+            Flaw::Much(line) => at_column(28, line, Bytes(1)),
+            Flaw::Long => at_column(30, Lines(0), Bytes(0)),
         }
-        i += 1;
     }
-    i
 }
 
-// The columns after the first `from` must be blank.
-pub fn blank_after(line: &[u8], num: Lines, from: Bytes) -> Tested
-    ensures { tested_of tt result ≡ blank_after num.0 line.now from.0 }
+// Refusal n at a line and a column.
+fn at_column(n: u8, line: Lines, column: Bytes) -> Answer
+    ensures { (result ≡ fitted (answer n line.0 column.0 0)) × (result.a < 2 ^ 24) }
 {
-    let right = blank_to(line, from);
-    if right < line.len() {
-        let column = right + 1;
-        return Tested::Flawed(Flaw::NotBlank(num, Bytes(column)));
-    }
-    Tested::Good
+    units::counted(n, line.0, column.0)
 }
 
-// A blank line.
-pub fn blank_line(line: &[u8]) -> bool
-    ensures { result ≡ blank_line line.now }
-{
-    line.len() <= blank_to(line, Bytes(0))
+// A line of a text: its number, counted from 1, and its bytes without its end.
+#[derive(Clone, Copy)]
+pub struct Line<'a> {
+    pub num: Lines,
+    pub text: &'a [u8],
 }
 
 // The first column of the field with k fields before it.
@@ -90,89 +72,102 @@ pub fn column_of(k: Words) -> Bytes
     Bytes(column)
 }
 
-// Reads `count` number fields, with `from` fields before them, into the same places of the row.
-pub fn read_numbers(line: &[u8], num: Lines, from: Words, count: Words, row: &mut [u16]) -> Tested
-    requires { (from.0 + count.0 ≤ 20) × (length row.old ≡ 20) }
-    ensures { tested_of (take (from.0 + count.0) row.new) result ≡ onward (field_numbers num.0 line.now from.0 count.0) (λ ws. passed (take from.0 row.old ++ ws)) }
+// How many blanks a text begins with.
+fn blanks(text: &[u8]) -> usize
+    ensures { result ≡ length (take_while is_blank text.now) }
 {
-    let end = from.0 + count.0;
-    let mut k = from.0;
-    while k < end {
-        match field::read_field(line, units::columns_of_fields(Words(k))) {
-            Number::Bad => return Tested::Flawed(Flaw::Field(num, column_of(Words(k)))),
-            Number::Word(w) => row[k] = w,
+    text.iter().take_while(|b| **b == b' ').count()
+}
+
+impl<'a> Line<'a> {
+    // The columns before the first that is past 120 or not plain, of a line that begins with `plain` plain bytes.
+    pub fn plain_to(self, plain: Bytes) -> Bytes
+        requires { plain.0 ≡ plain_in self.text.now }
+        ensures { result.0 ≡ plain_to self.entry.text.now }
+    {
+        Bytes(plain.0.min(120))
+    }
+
+    // The columns before the first that is not blank, of those after the first `from`.
+    fn blank_to(self, from: Bytes) -> usize
+        ensures { result ≡ blank_to from.0 self.entry.text.now }
+    {
+        let first = from.0.min(self.text.len());
+        from.0 + blanks(&self.text[first..])
+    }
+
+    // The columns after the first `from` must be blank.
+    pub fn blank_after(self, from: Bytes) -> Result<(), Flaw>
+        ensures { tested_of tt result ≡ blank_after self.entry.num.0 self.entry.text.now from.0 }
+    {
+        let right = self.blank_to(from);
+        if right < self.text.len() {
+            let column = right + 1;
+            return Err(Flaw::NotBlank(self.num, Bytes(column)));
         }
-        k += 1;
+        Ok(())
     }
-    Tested::Good
-}
 
-// The field with k fields before it is blank.
-fn blank_field(line: &[u8], k: Words) -> bool
-    requires { k.0 ≤ 20 }
-    ensures { result ≡ blank_field line.now k.0 }
-{
-    let before = units::columns_of_fields(k);
-    let last = before.0 + 6;
-    lesser(last, line.len()) <= blank_to(line, before)
-}
-
-// A field that must be 0, or blank, which means 0.
-fn zero_field(line: &[u8], num: Lines, k: Words) -> Tested
-    requires { k.0 ≤ 20 }
-    ensures { tested_of tt result ≡ zero_field num.0 line.now k.0 }
-{
-    if blank_field(line, k) {
-        return Tested::Good;
+    // A blank line.
+    pub fn blank_line(self) -> bool
+        ensures { result ≡ blank_line self.entry.text.now }
+    {
+        self.text.len() <= self.blank_to(Bytes(0))
     }
-    match field::read_field(line, units::columns_of_fields(k)) {
-        Number::Bad => Tested::Flawed(Flaw::Field(num, column_of(k))),
-        Number::Word(w) => {
-            if w == 0 {
-                return Tested::Good;
-            }
-            Tested::Flawed(Flaw::NotBlank(num, column_of(k)))
+
+    // The number in the field with k fields before it.
+    fn number(self, k: Words) -> Result<u16, Flaw>
+        requires { k.0 ≤ 20 }
+        ensures { read_of result ≡ number self.entry.num.0 self.entry.text.now k.0 }
+    {
+        let w = field::read_field(self.text, units::columns_of_fields(k));
+        w.ok_or(Flaw::Field(self.num, column_of(k)))
+    }
+
+    // Reads `count` number fields, with `from` fields before them, into the same places of the row.
+    pub fn read_numbers(self, from: Words, count: Words, row: &mut [u16; 20]) -> Result<(), Flaw>
+        requires { from.0 + count.0 ≤ 20 }
+        ensures { tested_of (take (from.0 + count.0) row.new) result ≡ onward (field_numbers self.entry.num.0 self.entry.text.now from.0 count.0) (λ ws. passed (take from.0 row.old ++ ws)) }
+    {
+        for k in from.0..from.0 + count.0 {
+            row[k] = self.number(Words(k))?;
         }
+        Ok(())
     }
-}
 
-// `count` such fields, with `from` fields before them.
-pub fn zero_fields(line: &[u8], num: Lines, from: Words, count: Words) -> Tested
-    requires { from.0 + count.0 ≤ 20 }
-    ensures { tested_of tt result ≡ zero_fields num.0 line.now from.0 count.0 }
-{
-    let end = from.0 + count.0;
-    let mut k = from.0;
-    while k < end {
-        match zero_field(line, num, Words(k)) {
-            Tested::Flawed(f) => return Tested::Flawed(f),
-            Tested::Good => k += 1,
+    // The field with k fields before it is blank.
+    fn blank_field(self, k: Words) -> bool
+        requires { k.0 ≤ 20 }
+        ensures { result ≡ blank_field self.entry.text.now k.0 }
+    {
+        let before = units::columns_of_fields(k);
+        let last = before.0 + 6;
+        last.min(self.text.len()) <= self.blank_to(before)
+    }
+
+    // A field that must be 0, or blank, which means 0.
+    fn zero_field(self, k: Words) -> Result<(), Flaw>
+        requires { k.0 ≤ 20 }
+        ensures { tested_of tt result ≡ zero_field self.entry.num.0 self.entry.text.now k.0 }
+    {
+        if self.blank_field(k) {
+            return Ok(());
         }
+        let w = self.number(k)?;
+        if w == 0 {
+            return Ok(());
+        }
+        Err(Flaw::NotBlank(self.num, column_of(k)))
     }
-    Tested::Good
-}
 
-// The four numbers of a refusal.
-pub fn numbers(f: Flaw) -> Answer
-    ensures { (result ≡ fitted (flaw_of f)) × (result.a < 2 ^ 24) }
-{
-    match f {
-        Flaw::Byte(line, column) => at_column(20, line, column),
-        Flaw::NoRecord => at_column(21, Lines(0), Bytes(0)),
-        Flaw::Field(line, column) => at_column(22, line, column),
-        Flaw::Kind(line) => at_column(23, line, Bytes(7)),
-        Flaw::Count(line) => at_column(24, line, Bytes(1)),
-        Flaw::Ends(line) => at_column(25, line, Bytes(1)),
-        Flaw::NotBlank(line, column) => at_column(26, line, column),
-        Flaw::Range(line, column) => at_column(27, line, column),
-        Flaw::Much(line) => at_column(28, line, Bytes(1)),
-        Flaw::Long => at_column(30, Lines(0), Bytes(0)),
+    // `count` such fields, with `from` fields before them.
+    pub fn zero_fields(self, from: Words, count: Words) -> Result<(), Flaw>
+        requires { from.0 + count.0 ≤ 20 }
+        ensures { tested_of tt result ≡ zero_fields self.entry.num.0 self.entry.text.now from.0 count.0 }
+    {
+        for k in from.0..from.0 + count.0 {
+            self.zero_field(Words(k))?;
+        }
+        Ok(())
     }
-}
-
-// Refusal n at a line and a column.
-fn at_column(n: u8, line: Lines, column: Bytes) -> Answer
-    ensures { (result ≡ fitted (answer n line.0 column.0 0)) × (result.a < 2 ^ 24) }
-{
-    units::counted(n, line.0, column.0)
 }
