@@ -1,10 +1,12 @@
 -- Document 01, "The binary block": the four counts of a Data record, and what they need.
-use Rattle.std.specs.Prelude.{ℕ, ◌+◌, ◌*◌, List, Bool, ◌||◌, ltb, leb}
+use Rattle.std.specs.Prelude.{ℕ, ◌+◌, ◌*◌, List, Bool, ◌||◌, ltb, leb, ⊤, Result, Ok, Err}
 use Rattle.std.specs.Prelude.{if◌then◌else◌}
 use Rattle.units.specs.Units.{lines_of_fields}
 use Rattle.words.specs.Words.{word}
 use Rattle.words.specs.Scans.{within}
 use Rattle.counts.specs.declared.Counts.{Counts}
+use Rattle.counts.specs.declared.Count.{Count}
+use Rattle.counts.specs.declared.Count.TheVariants.{Lprol, Jpar, Mpar, Nrow}
 
 -- "words 13 to 16 are LPROL, JPAR, MPAR, NROW"
 abbrev pub counts_of : List ℕ → Counts
@@ -30,6 +32,18 @@ in_range c =
     else if under_least 0 c.mpar then 2
     else if under_least 0 c.nrow then 3
     else 4
+
+-- how many stand before this one
+abbrev pub place_of : Count → ℕ
+place_of Lprol = 0
+place_of Jpar = 1
+place_of Mpar = 2
+place_of Nrow = 3
+
+-- the same number, of the first that is under its least value
+abbrev pub range_of : Result ⊤ Count → ℕ
+range_of (Ok x) = 4
+range_of (Err c) = place_of c
 
 -- "JPAR codes follow the prologue, then JPAR values, MPAR codes, and NROW rows of MPAR values": word w is one of the values
 abbrev pub among_values : Counts → ℕ → Bool

@@ -3,8 +3,7 @@
 
 ghost use Rattle.std.specs.Prelude.{◌≡◌, ◌≤◌, length};
 ghost use Rattle.words.specs.Words.{words_of};
-ghost use Rattle.words.specs.Scans.{within};
-ghost use Rattle.counts.specs.Counts.{counts_of, words_needed, lines_needed, under_least, in_range, among_values};
+ghost use Rattle.counts.specs.Counts.{counts_of, words_needed, lines_needed, under_least, in_range, range_of, among_values};
 
 use units::{Lines, Words};
 
@@ -15,6 +14,15 @@ pub struct Counts {
     pub jpar: u16,
     pub mpar: u16,
     pub nrow: u16,
+}
+
+// One of the four, in their order.
+#[derive(Clone, Copy, PartialEq, Eq)]
+pub enum Count {
+    Lprol,
+    Jpar,
+    Mpar,
+    Nrow,
 }
 
 // The four counts of a Data record.
@@ -44,32 +52,31 @@ pub fn words_needed(c: Counts) -> Words
 }
 
 // A count is under its least value: words are two's complement.
+#[tactic(auto, unfolding(crate::specs::Counts::under_least))]
 fn under(least: u16, w: u16) -> bool
     ensures { result ≡ under_least least w }
 {
-    if w < least {
-        return true;
-    }
-    32768 <= w
+    w < least || 32768 <= w
 }
 
-// Of the four counts, those before the first that is under its least value.
-pub fn in_range(c: Counts) -> u16
-    ensures { result ≡ in_range c }
+// The first of the four counts that is under its least value.
+#[tactic(auto, unfolding(crate::specs::Counts::in_range))]
+pub fn in_range(c: Counts) -> Result<(), Count>
+    ensures { range_of result ≡ in_range c }
 {
     if under(16, c.lprol) {
-        return 0;
+        return Err(Count::Lprol);
     }
     if under(0, c.jpar) {
-        return 1;
+        return Err(Count::Jpar);
     }
     if under(0, c.mpar) {
-        return 2;
+        return Err(Count::Mpar);
     }
     if under(0, c.nrow) {
-        return 3;
+        return Err(Count::Nrow);
     }
-    4
+    Ok(())
 }
 
 // The lines that the counts need.
@@ -83,13 +90,6 @@ pub fn lines_needed(c: Counts) -> Lines
     Lines(prologue + 2 * single + rows)
 }
 
-// A word's number lies from `least` to `most`.
-fn is_between(word: usize, least: usize, most: usize) -> bool
-    ensures { result ≡ within least most word }
-{
-    least <= word && word <= most
-}
-
 // Word `word` of a Data record with these counts is a 1-D or a 2-D value.
 pub fn among_values(word: Words, c: Counts) -> bool
     ensures { result ≡ among_values c word.0 }
@@ -99,5 +99,5 @@ pub fn among_values(word: Words, c: Counts) -> bool
     let values = codes + c.jpar as usize;
     let row_codes = values + c.mpar as usize;
     let last = words_needed(c).0;
-    is_between(w, codes + 1, values) || is_between(w, row_codes + 1, last)
+    (codes + 1..=values).contains(&w) || (row_codes + 1..=last).contains(&w)
 }

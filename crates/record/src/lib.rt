@@ -105,14 +105,11 @@ fn judge_cards(rest: &[u8], number: u16, first: Words) -> Result<Words, Fault>
 }
 
 // A Data record of `total` words, by its counts.
+#[tactic(auto, unfolding(crate::specs::Judging::judge_counts))]
 fn judge_counts(number: u16, total: Words, c: Counts) -> Result<Words, Fault>
     ensures { checked_of result ≡ judge_counts number total.0 c }
 {
-    let right = counts::in_range(c);
-    if right < 4 {
-        let word = 13 + right;
-        return Err(Fault::Counts(number, word));
-    }
+    counts::in_range(c).map_err(|count| Fault::Counts(number, 13 + count as u16))?;
     let needed = counts::words_needed(c).0;
     if total.0 != needed {
         return Err(Fault::Counts(number, 1));
