@@ -1,3 +1,5 @@
 pub mod Steps
 pub mod Placed
+pub mod Walking
 pub mod Loops
+pub mod Turns

@@ -1,10 +1,11 @@
-// The records of a block, one after the other: the next one, record n, and one lent as a part of the block.
+// The records of a block, one after the other: the next one, record n, one lent as a part of the block, and each in turn.
 #![tactic(auto)]
 
-ghost use Rattle.std.specs.Prelude.{◌≡◌};
+ghost use Rattle.std.specs.Prelude.{◌≡◌, drop};
 ghost use Rattle.words.specs.Words.{words_of, bytes_of};
 ghost use Rattle.block_steps.specs.Steps.{record_at};
 ghost use Rattle.block_steps.specs.Promises.{StepsTo, FindsRecord};
+ghost use Rattle.block_steps.specs.Standing.{standing, records_left, Lends};
 
 use units::Words;
 
@@ -35,15 +36,23 @@ pub fn step(block: &[u8], at: Words) -> Option<Place>
     Some(Place { at, size })
 }
 
+// The record with `at` words of the block before it, lent as a part of the block, and the words up to its end.
+fn lend(block: &[u8], at: Words) -> Option<(&[u8], Words)>
+    ensures { Lends block.now at.0 result }
+{
+    let place = step(block, at)?;
+    let end = place.at.0 + place.size.0;
+    Some((words::span(block, place.at, Words(end)), Words(end)))
+}
+
 // The record with `at` words of the block before it, lent as a part of the block; an empty part where none stands there.
 pub fn record_at(block: &[u8], at: Words) -> &[u8]
     ensures { result.now ≡ bytes_of (record_at (words_of block.now) at.0) }
 {
-    let Some(place) = step(block, at) else {
-        return &block[..0];
-    };
-    let end = place.at.0 + place.size.0;
-    words::span(block, place.at, Words(end))
+    match lend(block, at) {
+        Some((whole, _)) => whole,
+        None => &block[..0],
+    }
 }
 
 // Record `number` of the block, or none where the block has fewer.
@@ -59,4 +68,38 @@ pub fn find(block: &[u8], number: u16) -> Option<Place>
         at = place.at.0 + place.size.0;
     }
     step(block, Words(at))
+}
+
+// A walk over the records of a block: the next one is that with `at` words of the block before it.
+#[derive(Clone, Copy)]
+pub struct Walk<'a> {
+    block: &'a [u8],
+    at: Words,
+}
+
+// The records of a block, each lent in turn as a part of it.
+pub fn records(block: &[u8]) -> Walk<'_>
+    ensures { records_left result ≡ standing 0 (drop 1 (words_of block.now)) }
+{
+    Walk {
+        block,
+        at: Words(1),
+    }
+}
+
+impl<'a> Iterator for Walk<'a> {
+    ghost use Rattle.std.specs.Iterator.{item_count};
+    ghost use Rattle.block_steps.specs.Standing.{records_left, LendsRecord};
+
+    type Item = &'a [u8];
+
+    ghost next_gives = { LendsRecord };
+
+    ghost remaining = { item_count records_left };
+
+    fn next(&mut self) -> Option<&'a [u8]> {
+        let (whole, end) = lend(self.block, self.at)?;
+        self.at = end;
+        Some(whole)
+    }
 }
