@@ -1,7 +1,7 @@
 -- A loop over the records of an accepted block, each lent by a walk over it: what it keeps, and what a turn of it knows.
 use mathlib.Core.Path.{◌≡◌, sym, ap, subst, ◌∙◌}
 use mathlib.Core.List.{List, [], ◌∷◌}
-use Prim.Native.Nat.{ℕ, ◌+◌, ◌≤◌}
+use Prim.Native.Nat.{ℕ, ◌≤◌}
 use native.Mathlib.Omega.{arith}
 use lib.ListN.{length, drop, length-append}
 use denote.Ref.{Bor}
@@ -39,8 +39,8 @@ module _ (b : List ℕ) (bytes : Below 256 b) (a : Accepted b) where
       by [] each most = tt
       by (r ∷ rs) each most = let n = length-append r (joined rs) in (record { ok = each.0; most = omega arith }, by rs each.1 (omega arith))
 
-  pub loop_start : {it : Walk} → records_left it ≡ standing 0 (drop 1 (words_of b)) → {P : List (List ℕ) → Type 0} → P (records_of b) → Loop it P
-  loop_start e {P} h = let are = e ∙ stand_in_block b bytes a in
+  pub loop_start : {made it : Walk} → records_left made ≡ standing 0 (drop 1 (words_of b)) → it ≡ made → {P : List (List ℕ) → Type 0} → P (records_of b) → Loop it P
+  loop_start made same {P} h = let are = ap records_left same ∙ made ∙ stand_in_block b bytes a in
       record { good = subst (All BlockRecord) (sym are) block_records; holds = subst P (sym are) h }
 
 pub turn : {it : Walk} {P : List (List ℕ) → Type 0} → Loop it P → (r : Option (Bor (List ℕ))) (next : Walk) → LendsRecord it r next

@@ -1,6 +1,6 @@
 use Prim.Native.Nat.{◌+◌}
-use mathlib.Core.Path.{◌≡◌, refl, sym, ap, ◌∙◌}
-use mathlib.Core.List.{List, ◌∷◌}
+use mathlib.Core.Path.{◌≡◌, sym, ap, ◌∙◌}
+use mathlib.Core.List.{◌∷◌}
 use native.Mathlib.Omega.{arith}
 use lib.ListN.{drop}
 use lib.Seq.{slice}
@@ -28,6 +28,6 @@ returns c = let b = c.args.block.now in
     let end = p.at.0 + p.size.0 in
     let found = step_found _ _ _ (sym c.in_ok-place.ensures) in
     let bytes : c.span.result.now ≡ bytes_of (slice p.at.0 end ws)
-        = c.span.ensures ∙ bytes_slice p.at.0 end b (omega arith) (all_below 256 b (λ i. omega (arith, c.type_inv.block i))) in
+    = c.span.ensures ∙ bytes_slice p.at.0 end b (omega arith) (all_below 256 b (λ i. omega (arith, c.type_inv.block i))) in
     let are : words_of c.span.result.now ≡ slice p.at.0 end ws = ap words_of bytes ∙ words_bytes _ in
     (by_steps ws c.args.at.0 ∙ ap (by_step ws) (sym c.in_ok-place.ensures) ∙ ap (λ r. r ∷ standing 0 (drop end ws)) (sym are), bytes ∙ ap bytes_of (sym are))

@@ -1,4 +1,4 @@
-use mathlib.Core.Path.{sym, ap, ◌∙◌}
+use mathlib.Core.Path.{ap, ◌∙◌}
 use Rattle.words.specs.Words.{words_of, bytes_of}
 use Rattle.block_steps.proofs.Walking.{first_words, no_words}
 use Rattle.block_steps.proofs.record_at.Goals as goal
