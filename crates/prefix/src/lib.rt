@@ -1,10 +1,10 @@
 // Table 3 of the format: the three letters of an instrument's code, found by a binary search.
 #![tactic(auto)]
 
-ghost use Rattle.std.specs.Prelude.{◌≡◌, true, ◌<◌, get_or};
+ghost use Rattle.std.specs.Prelude.{◌≡◌, true, ◌<◌};
 ghost use Rattle.prefix.specs.Rising.{rises};
-ghost use Rattle.prefix.specs.LookUp.{place_in};
-ghost use Rattle.prefix.specs.Table.{prefixes, dashes, answer_of};
+ghost use Rattle.prefix.specs.LookUp.{codes_of, row_of};
+ghost use Rattle.prefix.specs.Table.{answer_of};
 ghost use Rattle.prefix.specs.Promises.{FindsPrefix};
 
 use units::Answer;
@@ -13,126 +13,91 @@ use units::Answer;
 #[derive(Clone, Copy)]
 pub struct Letters(pub u8, pub u8, pub u8);
 
-// The codes of Table 3's first listing, apart from their letters, so that the search can be lent them.
-const CODES: [u16; 63] = [
-    10, 20, 25, 30, 31, 32, 33, 40, 41, 42, 43, 50, 70, 71, 72, 73, 74, 80, 120, 175, 180, 210,
-    211, 212, 310, 311, 320, 321, 322, 820, 830, 845, 861, 870, 900, 910, 911, 1040, 1140, 1210,
-    1220, 1230, 1240, 1320, 1340, 1390, 1560, 1620, 2090, 2200, 2930, 5020, 5140, 5160, 5300, 5340,
-    5430, 5460, 5480, 5540, 5860, 6300, 6320,
+// Table 3's first listing: each code and its letters, codes rising.
+static TABLE: [(u16, [u8; 3]); 63] = [
+    (10, *b"JRO"),
+    (20, *b"ARO"),
+    (25, *b"MUI"),
+    (30, *b"MLH"),
+    (31, *b"MLH"),
+    (32, *b"MLH"),
+    (33, *b"MLH"),
+    (40, *b"STS"),
+    (41, *b"STS"),
+    (42, *b"STS"),
+    (43, *b"STS"),
+    (50, *b"CHT"),
+    (70, *b"EIS"),
+    (71, *b"EIS"),
+    (72, *b"EIS"),
+    (73, *b"EIS"),
+    (74, *b"EIS"),
+    (80, *b"SON"),
+    (120, *b"IMF"),
+    (175, *b"EHP"),
+    (180, *b"EQB"),
+    (210, *b"GPI"),
+    (211, *b"AEI"),
+    (212, *b"DST"),
+    (310, *b"GCM"),
+    (311, *b"ARE"),
+    (320, *b"SDT"),
+    (321, *b"SDL"),
+    (322, *b"GSW"),
+    (820, *b"HHF"),
+    (830, *b"SYF"),
+    (845, *b"KHF"),
+    (861, *b"SHF"),
+    (870, *b"GBF"),
+    (900, *b"FHF"),
+    (910, *b"WHF"),
+    (911, *b"EHF"),
+    (1040, *b"ARM"),
+    (1140, *b"PKR"),
+    (1210, *b"SBF"),
+    (1220, *b"MAF"),
+    (1230, *b"CCF"),
+    (1240, *b"ADF"),
+    (1320, *b"COF"),
+    (1340, *b"SAF"),
+    (1390, *b"TRF"),
+    (1560, *b"ATM"),
+    (1620, *b"DUM"),
+    (2090, *b"CIA"),
+    (2200, *b"PLA"),
+    (2930, *b"QAD"),
+    (5020, *b"HFP"),
+    (5140, *b"AQF"),
+    (5160, *b"AFP"),
+    (5300, *b"PFP"),
+    (5340, *b"MFP"),
+    (5430, *b"WFP"),
+    (5460, *b"CFP"),
+    (5480, *b"SFP"),
+    (5540, *b"TFP"),
+    (5860, *b"STM"),
+    (6300, *b"UIL"),
+    (6320, *b"CSL"),
 ];
 
-// The letters of each code, in the same order.
-const LETTERS: [u8; 189] = *b"\
-    JRO\
-    ARO\
-    MUI\
-    MLH\
-    MLH\
-    MLH\
-    MLH\
-    STS\
-    STS\
-    STS\
-    STS\
-    CHT\
-    EIS\
-    EIS\
-    EIS\
-    EIS\
-    EIS\
-    SON\
-    IMF\
-    EHP\
-    EQB\
-    GPI\
-    AEI\
-    DST\
-    GCM\
-    ARE\
-    SDT\
-    SDL\
-    GSW\
-    HHF\
-    SYF\
-    KHF\
-    SHF\
-    GBF\
-    FHF\
-    WHF\
-    EHF\
-    ARM\
-    PKR\
-    SBF\
-    MAF\
-    CCF\
-    ADF\
-    COF\
-    SAF\
-    TRF\
-    ATM\
-    DUM\
-    CIA\
-    PLA\
-    QAD\
-    HFP\
-    AQF\
-    AFP\
-    PFP\
-    MFP\
-    WFP\
-    CFP\
-    SFP\
-    TFP\
-    STM\
-    UIL\
-    CSL\
-";
-
-// The place of a code in any list of codes that rises, or the list's length where it is not there.
-fn place_in(codes: &[u16], code: u16) -> usize
-    requires { rises codes.now ≡ true }
-    ensures { result ≡ place_in codes.now code }
+// The row of a code in any table whose codes rise.
+fn row_of(table: &[(u16, [u8; 3])], code: u16) -> Option<usize>
+    requires { rises (codes_of table.now) ≡ true }
+    ensures { result ≡ row_of (codes_of table.now) code }
 {
-    let count = codes.len();
-    let mut low: usize = 0;
-    let mut high = count;
-    while low < high {
-        let middle = low + (high - low) / 2;
-        let found = codes[middle];
-        if found == code {
-            return middle;
-        }
-        if found < code {
-            low = middle + 1;
-        } else {
-            high = middle;
-        }
-    }
-    count
-}
-
-// The letters of a row of the table, rows counted from 0.
-fn letters_at(row: usize) -> Letters
-    requires { row < 63 }
-    ensures { result ≡ get_or prefixes row dashes }
-{
-    let letters = LETTERS;
-    let at = row * 3;
-    let first = letters[at];
-    let second = letters[at + 1];
-    let third = letters[at + 2];
-    Letters(first, second, third)
+    table.binary_search_by_key(&code, |row| row.0).ok()
 }
 
 // The letters of an instrument's code, "---" where it is not listed.
 pub fn prefix_of(instrument: u16) -> Letters
     ensures { FindsPrefix instrument result }
 {
-    let row = place_in(&CODES, instrument);
-    if row < CODES.len() {
-        letters_at(row)
-    } else {
-        Letters(b'-', b'-', b'-')
+    match row_of(&TABLE, instrument) {
+        Some(row) => {
+            let [first, second, third] = TABLE[row].1;
+            Letters(first, second, third)
+        }
+        None => Letters(b'-', b'-', b'-'),
     }
 }
 
@@ -142,8 +107,8 @@ pub fn numbers(letters: Letters) -> Answer
 {
     Answer {
         n: 0,
-        a: letters.0 as u32,
-        b: letters.1 as u16,
-        c: letters.2 as u16,
+        a: u32::from(letters.0),
+        b: u16::from(letters.1),
+        c: u16::from(letters.2),
     }
 }
