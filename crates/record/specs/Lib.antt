@@ -1,3 +1,4 @@
+pub mod Kinds
 pub mod Judging
 pub mod Cases
 pub mod Lines

@@ -20,6 +20,10 @@ pub const HEADER: u16 = 3002;
 
 pub const DATA: u16 = 1002;
 
+mod kind;
+
+pub use crate::kind::Kind;
+
 // What is wrong with a record: the record's number, and the word's where it varies.
 #[derive(Clone, Copy)]
 pub enum Fault {
@@ -51,18 +55,11 @@ impl Numbered for Fault {
 }
 
 // LTOT of a Catalogue or a Header is no multiple of 40 from 40 on, or more than is left.
+#[tactic(auto, unfolding(crate::specs::Judging::wrong_total))]
 fn wrong_total(total: Words, left: Words) -> bool
     ensures { result ≡ wrong_total total.0 left.0 }
 {
-    let words = total.0;
-    let most = left.0;
-    if words < 40 {
-        return true;
-    }
-    if words % 40 != 0 {
-        return true;
-    }
-    most < words
+    total.0 < 40 || total.0 % 40 != 0 || left.0 < total.0
 }
 
 // Of the words after `from` up to `upto`, those before the first that has a byte outside of `least` to `most`.
@@ -93,6 +90,7 @@ fn judge_content(rest: &[u8], number: u16, first: Words, total: Words) -> Result
 }
 
 // A Catalogue or a Header, whose words from `first` to 40 must be zero.
+#[tactic(auto, unfolding(crate::specs::Judging::judge_cards))]
 fn judge_cards(rest: &[u8], number: u16, first: Words) -> Result<Words, Fault>
     requires { (16 ≤ length (words_of rest.now)) × (1 ≤ first.0) × (first.0 ≤ 40) }
     ensures { checked_of result ≡ judge_cards number first.0 (words_of rest.now) }
@@ -121,15 +119,11 @@ fn judge_counts(number: u16, total: Words, c: Counts) -> Result<Words, Fault>
 fn wrong_data_total(total: Words, left: Words) -> bool
     ensures { result ≡ wrong_data_total total.0 left.0 }
 {
-    let stated = total.0;
-    let most = left.0;
-    if stated < 16 {
-        return true;
-    }
-    most < stated
+    total.0 < 16 || left.0 < total.0
 }
 
 // A Data record.
+#[tactic(auto, unfolding(crate::specs::Judging::judge_data))]
 fn judge_data(rest: &[u8], number: u16) -> Result<Words, Fault>
     requires { 16 ≤ length (words_of rest.now) }
     ensures { checked_of result ≡ judge_data number (words_of rest.now) }
@@ -142,6 +136,7 @@ fn judge_data(rest: &[u8], number: u16) -> Result<Words, Fault>
 }
 
 // The record that stands first in the rest of the record words.
+#[tactic(auto, unfolding(crate::specs::Judging::judge_record))]
 pub fn judge_record(rest: &[u8], number: u16) -> Result<Words, Fault>
     ensures { checked_of result ≡ judge_record number (words_of rest.now) }
 {
@@ -149,37 +144,33 @@ pub fn judge_record(rest: &[u8], number: u16) -> Result<Words, Fault>
     if left < 16 {
         return Err(Fault::Short(number));
     }
-    let kind = words::word_at(rest, Words(1));
-    if kind == CATALOGUE {
-        return judge_cards(rest, number, Words(13));
+    match Kind::of_word(words::word_at(rest, Words(1))) {
+        Some(Kind::Catalogue) => judge_cards(rest, number, Words(13)),
+        Some(Kind::Header) => judge_cards(rest, number, Words(16)),
+        Some(Kind::Data) => judge_data(rest, number),
+        None => Err(Fault::Kind(number)),
     }
-    if kind == HEADER {
-        return judge_cards(rest, number, Words(16));
-    }
-    if kind == DATA {
-        return judge_data(rest, number);
-    }
-    Err(Fault::Kind(number))
 }
 
 // The lines of a good record.
+#[tactic(auto, unfolding(crate::specs::Lines::line_count))]
 pub fn line_count(whole: &[u8]) -> Lines
     requires { 16 ≤ length (words_of whole.now) }
     ensures { result.0 ≡ line_count (words_of whole.now) }
 {
-    if words::word_at(whole, Words(1)) != DATA {
-        return units::lines_of_cards(words::count(whole));
+    if words::word_at(whole, Words(1)) == Kind::Data.word() {
+        counts::lines_needed(counts::counts_of(whole))
+    } else {
+        units::lines_of_cards(words::count(whole))
     }
-    counts::lines_needed(counts::counts_of(whole))
 }
 
 // Word `word` of a good record may be amended.
+#[tactic(auto, unfolding(crate::specs::Values::is_value))]
 pub fn is_value(whole: &[u8], word: Words) -> bool
     requires { 16 ≤ length (words_of whole.now) }
     ensures { result ≡ is_value (words_of whole.now) word.0 }
 {
-    if words::word_at(whole, Words(1)) != DATA {
-        return false;
-    }
-    counts::among_values(word, counts::counts_of(whole))
+    words::word_at(whole, Words(1)) == Kind::Data.word()
+        && counts::among_values(word, counts::counts_of(whole))
 }
