@@ -4,6 +4,7 @@
 ghost use Rattle.std.specs.Prelude.{◌≡◌, ◌+◌, ◌*◌, ◌/◌, ◌^◌, ◌<◌};
 ghost use Rattle.units.specs.Units.{bytes_of_words, words_of_bytes, lines_of_cards, words_of_cards, lines_of_fields, columns_of_fields, ends_of_lines};
 ghost use Rattle.units.specs.Answers.{answer, fitted, packed_of};
+ghost use Rattle.units.specs.declared.Unwritten.TheVariants.{Refused};
 
 mod numbered;
 
@@ -35,6 +36,14 @@ pub struct Answer {
 pub enum Unwritten<R> {
     Refused(R),
     Short(Bytes),
+}
+
+impl<R> From<R> for Unwritten<R> {
+    ghost from_gives = { λ r u. u ≡ Refused r };
+
+    fn from(r: R) -> Unwritten<R> {
+        Unwritten::Refused(r)
+    }
 }
 
 // The bytes that `w` words take.
