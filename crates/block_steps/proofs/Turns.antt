@@ -1,17 +1,17 @@
 -- A loop over the records of an accepted block, each lent by a walk over it: what it keeps, and what a turn of it knows.
 use mathlib.Core.Path.{◌≡◌, sym, ap, subst, ◌∙◌}
 use mathlib.Core.List.{List, [], ◌∷◌}
-use Prim.Native.Nat.{ℕ, ◌≤◌}
+use Prim.Native.Nat.{ℕ, ◌+◌, ◌≤◌, ◌<◌}
 use native.Mathlib.Omega.{arith}
 use lib.ListN.{length, drop, length-append}
 use denote.Ref.{Bor}
 use Rattle.std.specs.Prelude.{Option, Some, None}
-use Rattle.words.specs.Words.{words_of, bytes_of, joined, All, Below, most_record_words}
+use Rattle.words.specs.Words.{words_of, bytes_of, joined, All, Below, framed, most_words, most_record_words}
 use Rattle.record.specs.Rules.{RecordOk}
 use Rattle.block.specs.Rules.{BlockRecord}
 use Rattle.block.specs.Judging.{Accepted}
 use Rattle.block.specs.Records.{records_of}
-use Rattle.block.proofs.Exact.{ok_long, only_good}
+use Rattle.block.proofs.Exact.{ok_long, only_good, words_are, frame_of, frame_ok}
 use Rattle.block_steps.specs.declared.Walk.{Walk}
 use Rattle.block_steps.specs.Standing.{standing, records_left, LendsRecord}
 use Rattle.block_steps.proofs.Walking.{stand_in_block}
@@ -62,3 +62,10 @@ loop_end {it} {P} l r next lends is = by (rw is at lends)
 -- behind the record the others are left
 pub loop_on : {P Q : List (List ℕ) → Type 0} {whole : List ℕ} {next : Walk} → Turn P whole next → Q (records_left next) → Loop next Q
 loop_on t h = record { good = t.others; holds = h }
+
+-- behind word 1 and the records stands the checksum, the last of 8,000 words at most
+pub start_within : (b : List ℕ) → Below 256 b → Accepted b → (1 + length (joined (records_of b)) < length (words_of b)) × (length (words_of b) ≤ most_words)
+unfolding framed
+start_within b bytes a =
+    let good = (only_good b a.count bytes a.is).0 in
+    (omega (arith, ap length (words_are b (records_of b) good), frame_of (joined (records_of b))), (frame_ok b a.count a.is).size.most)
