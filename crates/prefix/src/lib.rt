@@ -2,16 +2,34 @@
 #![tactic(auto)]
 
 ghost use Rattle.std.specs.Prelude.{◌≡◌, true, ◌<◌};
+ghost use Rattle.std.proofs.Common.{arith};
 ghost use Rattle.prefix.specs.Rising.{rises};
 ghost use Rattle.prefix.specs.LookUp.{codes_of, row_of};
 ghost use Rattle.prefix.specs.Table.{answer_of};
 ghost use Rattle.prefix.specs.Promises.{FindsPrefix};
 
-use units::Answer;
+use units::{Answer, Numbered};
 
 // The byte values of the three letters.
 #[derive(Clone, Copy)]
 pub struct Letters(pub u8, pub u8, pub u8);
+
+impl Numbered for Letters {
+    ghost numbers_of = { answer_of };
+
+    ghost room = { 256 };
+
+    ghost packs = { Prim.omega arith };
+
+    fn numbers(self) -> Answer {
+        Answer {
+            n: 0,
+            a: u32::from(self.0),
+            b: u16::from(self.1),
+            c: u16::from(self.2),
+        }
+    }
+}
 
 // Table 3's first listing: each code and its letters, codes rising.
 static TABLE: [(u16, [u8; 3]); 63] = [
@@ -98,17 +116,5 @@ pub fn prefix_of(instrument: u16) -> Letters
             Letters(first, second, third)
         }
         None => Letters(b'-', b'-', b'-'),
-    }
-}
-
-// The four numbers of the answer.
-pub fn numbers(letters: Letters) -> Answer
-    ensures { (result ≡ answer_of letters) × (result.a < 256) }
-{
-    Answer {
-        n: 0,
-        a: u32::from(letters.0),
-        b: u16::from(letters.1),
-        c: u16::from(letters.2),
     }
 }

@@ -2,16 +2,16 @@
 #![tactic(auto)]
 
 ghost use Rattle.std.specs.Prelude.{◌≡◌, not, [], ◌∷◌, ◌++◌, ◌+◌, ◌*◌, ◌≤◌, ◌<◌, length, get_or, take, drop};
+ghost use Rattle.std.proofs.Common.{arith};
 ghost use Rattle.std.proofs.lemmas.List.Edits.{sets};
 ghost use Rattle.units.specs.Units.{bytes_of_words};
-ghost use Rattle.units.specs.Answers.{answered};
 ghost use Rattle.words.specs.Words.{bytes_of};
 ghost use Rattle.sheet.specs.Sheets.{version1, sheet_bytes, sheet_of, number_at, numbers_in, entries_of, all_zero, broken};
 ghost use Rattle.sheet.specs.Rules.{KeepsLayout, Holds};
-ghost use Rattle.sheet.specs.Cases.{entry_of, opened_of};
+ghost use Rattle.sheet.specs.Cases.{entry_of, broken_of};
 ghost use Rattle.sheet.specs.Promises.{OpensSheet, StartsSheet};
 
-use units::{Answer, Bytes, Words};
+use units::{Answer, Bytes, Numbered, Words};
 
 const VERSION: u16 = 1;
 
@@ -36,6 +36,18 @@ pub struct Amendment {
 // The sheet does not keep its layout.
 #[derive(Clone, Copy)]
 pub struct Broken;
+
+impl Numbered for Broken {
+    ghost numbers_of = { broken_of };
+
+    ghost room = { 65536 };
+
+    ghost packs = { Prim.omega arith };
+
+    fn numbers(self) -> Answer {
+        units::row(40, 0, 0, 0)
+    }
+}
 
 // The number behind `at` bytes.
 fn number_at(sheet: &[u8], at: Bytes) -> u16
@@ -84,16 +96,6 @@ pub fn open(sheet: &[u8]) -> Result<u16, Broken>
         return Err(Broken);
     }
     Ok(number_at(sheet, Bytes(5)))
-}
-
-// The four numbers of what is found of a sheet.
-pub fn numbers(o: Result<u16, Broken>) -> Answer
-    ensures { (result ≡ answered (opened_of o)) × (result.a < 65536) }
-{
-    match o {
-        Ok(count) => units::row(0, count, 0, 0),
-        Err(Broken) => units::row(40, 0, 0, 0),
-    }
 }
 
 // Starts a sheet: no amendment stands in it.
