@@ -1,6 +1,6 @@
 -- The laws hold.
-use lib.Bits.{xor_comm}
-use Rattle.words.proofs.Xor.{xor_assoc, xor_twice, fold_patched}
+use lib.Bits.{xor_assoc, xor_comm}
+use Rattle.words.proofs.Xor.{xor_twice, fold_patched}
 use Rattle.demands.specs.ExclusiveOr.{XorLaws, Patched}
 
 pub xor_laws : XorLaws

@@ -46,6 +46,8 @@ impl<R> From<R> for Unwritten<R> {
     }
 }
 
+// Kept: the conversions that document 01 names, also where two differ only in the unit: by the project's rule the units stay apart (specs/Units.antt).
+
 // The bytes that `w` words take.
 pub fn bytes_of_words(w: Words) -> Bytes
     requires { w.0 < 2 ^ 62 }
@@ -65,14 +67,14 @@ pub fn words_of_bytes(b: Bytes) -> Words
 pub fn words_said(w: u16) -> Words
     ensures { (result.0 ≡ w) × (result.0 < 65536) }
 {
-    Words(w as usize)
+    Words(usize::from(w))
 }
 
 // The lines that a field of a record's first line, taken as a count, says.
 pub fn lines_said(w: u16) -> Lines
     ensures { (result.0 ≡ w) × (result.0 < 65536) }
 {
-    Lines(w as usize)
+    Lines(usize::from(w))
 }
 
 // The word that says `w` words.
@@ -110,11 +112,7 @@ pub fn words_of_cards(l: Lines) -> Words
 pub fn lines_of_fields(w: Words) -> Lines
     ensures { result.0 ≡ lines_of_fields w.0 }
 {
-    let whole = w.0 / 20;
-    if w.0 % 20 == 0 {
-        return Lines(whole);
-    }
-    Lines(whole + 1)
+    Lines(w.0.div_ceil(20))
 }
 
 // The answer of row n, with its other numbers; a is a word here.
@@ -123,7 +121,7 @@ pub fn row(n: u8, a: u16, b: u16, c: u16) -> Answer
 {
     Answer {
         n,
-        a: a as u32,
+        a: u32::from(a),
         b,
         c,
     }
@@ -133,12 +131,10 @@ pub fn row(n: u8, a: u16, b: u16, c: u16) -> Answer
 pub fn counted(n: u8, a: usize, b: usize) -> Answer
     ensures { (result ≡ fitted (answer n a b 0)) × (result.a < 2 ^ 24) }
 {
-    let first = a % 16777216;
-    let second = b % 65536;
     Answer {
         n,
-        a: first as u32,
-        b: second as u16,
+        a: (a % (1 << 24)) as u32,
+        b: (b % (1 << 16)) as u16,
         c: 0,
     }
 }
@@ -155,11 +151,10 @@ pub fn pack(r: Answer) -> u64
     requires { r.a < 2 ^ 24 }
     ensures { result ≡ packed_of r }
 {
-    let n = r.n;
-    let a = r.a;
-    let b = r.b;
-    let c = r.c;
-    (n as u64) * 72057594037927936 + (a as u64) * 4294967296 + (b as u64) * 65536 + (c as u64)
+    u64::from(r.n) * (1 << 56)
+        + u64::from(r.a) * (1 << 32)
+        + u64::from(r.b) * (1 << 16)
+        + u64::from(r.c)
 }
 
 // The columns that the fields of `w` words take, six each, as bytes of a line.

@@ -23,20 +23,6 @@ length_bytes_of (w ∷ ws) = let ih = length_bytes_of ws in omega arith
 pub word_room : (b : List ℕ) (i : ℕ) → i < length (words_of b) → i * 2 + 1 < length b
 word_room b i h = omega (arith, length_words_of b)
 
-get_or_words_of : (b : List ℕ) (i : ℕ) → i * 2 + 1 < length b → get_or (words_of b) i 0 ≡ get_or b (i * 2) 0 * 256 + get_or b (i * 2 + 1) 0
-unfolding words_of
-get_or_words_of [] i h = absurd (omega arith)
-get_or_words_of (x ∷ []) i h = absurd (omega arith)
-get_or_words_of (x ∷ y ∷ r) zero h = refl
-get_or_words_of (x ∷ y ∷ r) (suc i) h =
-    let e : suc i * 2 ≡ suc (suc (i * 2)) = omega arith in
-    let f : suc i * 2 + 1 ≡ suc (suc (i * 2 + 1)) = omega arith in
-    rw (f, e) (get_or_words_of r i (omega arith))
-
--- a word is its two bytes, where the high byte's place is known by an equation
-pub word_bytes : (b : List ℕ) (i high : ℕ) → high ≡ i * 2 → i < length (words_of b) → get_or (words_of b) i 0 ≡ get_or b high 0 * 256 + get_or b (high + 1) 0
-word_bytes b i high e h = rw e (get_or_words_of b i (word_room b i h))
-
 -- the bytes of a block's words are the block
 pub bytes_words : (b : List ℕ) → length b % 2 ≡ 0 → Below 256 b → bytes_of (words_of b) ≡ b
 unfolding words_of bytes_of

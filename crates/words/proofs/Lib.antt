@@ -1,5 +1,6 @@
 pub mod Lists
 pub mod Laws
+pub mod Paired
 pub mod Xor
 pub mod Writing
 pub mod Sealing

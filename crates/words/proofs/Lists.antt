@@ -1,22 +1,17 @@
 -- Facts about lists that every layer cites.
-use mathlib.Core.Path.{◌≡◌, ap, ◌∙◌}
+use mathlib.Core.Path.{◌≡◌}
 use mathlib.Core.List.{List, [], ◌∷◌, ◌++◌, map, flatten}
-use Prim.Native.Nat.{ℕ, zero, suc, ◌+◌, ◌-◌, ◌≤◌, ◌<◌}
-use native.Mathlib.Nat.{suc-add, zero-add}
+use Prim.Native.Nat.{ℕ, zero, suc, ◌-◌, ◌≤◌, ◌<◌}
 use native.Mathlib.Omega.{arith}
 use lib.ListN.{length, get_or, take, drop, set, replicate}
-use lib.Seq.{slice, take-nil}
+use lib.Seq.{slice}
+use Rattle.std.proofs.lemmas.Slice.{between_is}
 use Rattle.words.specs.Words.{All}
 
 module _ {A : Type 0} where
-  take-drop : (m n : ℕ) (l : List A) → take m (drop n l) ≡ drop n (take (n + m) l)
-  take-drop m zero l = rw zero-add
-  take-drop m (suc n) [] = rw (suc-add, take-nil)
-  take-drop m (suc n) (x ∷ xs) = rw suc-add (take-drop m n xs)
-
   -- a part by its start and length is the slice by its two ends
   pub part_slice : (f t : ℕ) (l : List A) → f ≤ t → take (t - f) (drop f l) ≡ slice f t l
-  part_slice f t l h = let e : f + (t - f) ≡ t = omega arith in take-drop (t - f) f l ∙ ap (λ n. drop f (take n l)) e
+  part_slice f t l _ = between_is l f t
 
 module _ {A : Type 0} (P : A → Type 0) where
   -- what holds of all holds of the first ones, and of the others

@@ -1,7 +1,7 @@
 -- The scan for the first word that fails a test, a turn at a time.
 use mathlib.Core.Path.{◌≡◌, refl, ap, ◌∙◌}
 use mathlib.Core.Bool.{Bool, true, false, ◌&&◌}
-use mathlib.Core.List.{List, [], ◌∷◌}
+use mathlib.Core.List.{List, [], ◌∷◌, map}
 use Prim.Native.Nat.{ℕ, zero, suc, ◌+◌, ◌*◌, ◌/◌, ◌%◌, ◌≤◌, ◌<◌, min}
 use native.Mathlib.Numerals.{add-one}
 use native.Mathlib.Omega.{arith}
@@ -10,6 +10,10 @@ use lib.Seq.{drop-cons, slice}
 use Rattle.words.specs.Words.{words_of, All}
 use Rattle.words.proofs.Laws.{words-slice}
 use Rattle.std.specs.Prelude.{if◌then◌else◌}
+use Rattle.std.specs.Option.{MatchOption, unwrap_or}
+use Rattle.std.specs.Prelude.{Option}
+use Rattle.std.specs.List.{AllWithin, HoldsAt}
+use Rattle.std.proofs.lemmas.Iterator.{index_from_first}
 use Rattle.units.proofs.Choosing.{by_test}
 use lib.Dec.{eqb, leb}
 use borrow.Author.Tests.{eqb-true, eqb-false, leb-true, leb-false, le-leb, lt-leb}
@@ -50,6 +54,14 @@ one_more_passes p ws k h = by (leb k (passing p ws)) refl (p (get_or ws k 0)) re
 pub scan_end : (p : ℕ → Bool) (ws : List ℕ) (i : ℕ) → length ws ≤ i → passing p (drop i ws) ≡ 0
 unfolding passing
 scan_end p ws i h = rw (drop_of_length-le ws {i = i} h)
+
+-- the place of the first image that fails, or the length where there is none, is how many pass
+pub scan_found : {A : Type 0} (p : ℕ → Bool) (f : A → ℕ) (l : List A) (r : Option ℕ)
+    → MatchOption r (AllWithin (λ x. p (f x) ≡ true) l 0 (length l)) (λ i. (i < length l) × HoldsAt (λ x. p (f x) ≡ false) l i × AllWithin (λ x. p (f x) ≡ true) l 0 i)
+    → passing p (map f l) ≡ unwrap_or r (length l)
+unfolding passing
+scan_found p f =
+    index_from_first (λ l. passing p (map f l)) (λ x. p (f x) ≡ false) (λ x. p (f x) ≡ true) refl (λ x l e. rw e refl) (λ x l e. rw e (omega arith))
 
 -- two tests that say the same scan the same
 pub scan_same : (p q : ℕ → Bool) → ((w : ℕ) → p w ≡ q w) → (ws : List ℕ) → passing p ws ≡ passing q ws

@@ -5,12 +5,13 @@ use mathlib.Core.Logic.{◌⊎◌, inl, inr}
 use mathlib.Core.List.{List, [], ◌∷◌, ◌++◌, append-nil}
 use Prim.Native.Nat.{ℕ, suc, ◌+◌, ◌^◌, ◌≤◌, ◌<◌}
 use native.Mathlib.Nat.{add-zero, suc-add, add-suc}
+use native.Mathlib.Numerals.{add-one}
 use native.Mathlib.Omega.{arith}
 use borrow.Author.Tests.{lt-ltb, le-ltb}
 use lib.Dec.{ltb}
 use Rattle.std.specs.Prelude.{if◌then◌else◌}
-use lib.ListN.{length, drop, set, length-append}
-use lib.Seq.{sets, length-sets, sets-eq}
+use lib.ListN.{length, get_or, take, drop, set, length-append}
+use lib.Seq.{sets, length-sets, sets-eq, length-take-le, take-suc}
 use Rattle.units.specs.Answers.{answer, passed, Packs}
 use Rattle.words.specs.Outcomes.{Written, written, leaves}
 use Rattle.words.specs.Writing.{Room, Put}
@@ -61,6 +62,12 @@ module _ (o : List ℕ) (at : ℕ) {whole : List ℕ} (s r : List ℕ) (e : whol
 
     pub both-put : {out' : List ℕ} {to' : ℕ} → Put out to r out' to' → Put o at whole out' to'
     both-put q = done (on (on start s r e p) r [] (sym (append-nil r)) q) refl
+
+-- the bytes up to k of a text are stored, and one more
+pub stored_on : (o text : List ℕ) (at k b : ℕ) {out : List ℕ} → k < length text → b ≡ get_or text k 0 → out ≡ sets o at (take k text) → set out (at + k) b ≡ sets o at (take (k + 1) text)
+stored_on o text at k b h e s =
+    let l : length (take k text) ≡ k = length-take-le k text (omega arith) in
+    rw (s, e, add-one, take-suc text k 0 h, sets-append o at (take k text) (get_or text k 0 ∷ []), l) refl
 
 -- one byte is stored
 pub byte_put : (out : List ℕ) (to b : ℕ) → Put out to (b ∷ []) (set out to b) (to + 1)

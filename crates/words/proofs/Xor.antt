@@ -1,49 +1,14 @@
--- The exclusive or is associative; the library has that it is commutative and its own inverse. And what that says of the fold over words.
+-- What the laws of the exclusive or say of the fold over words.
 use mathlib.Core.Path.{◌≡◌, refl, sym, ap, ap₂, ◌∙◌}
-use Prim.Native.Nat.{ℕ, zero, suc, ◌+◌, ◌*◌, ◌/◌, ◌%◌, ◌^◌, ◌<◌}
-use mathlib.Core.List.{List, [], ◌∷◌, ◌++◌}
-use native.Mathlib.Numerals.{add-one}
+use Prim.Native.Nat.{ℕ, zero, suc, ◌/◌, ◌%◌, ◌^◌, ◌<◌}
+use mathlib.Core.List.{List, [], ◌∷◌, ◌++◌, map, map-append}
 use native.Mathlib.Omega.{arith}
-use lib.Arith.{bin_ind}
-use lib.Bits.{bit_xor, differ, xor_step, xor_comm, xor_self, xor_zero_r, xor_lt, xor_shr, xor_mod, xor_block}
-use lib.ListN.{length, get_or, take, set}
-use lib.Seq.{take-suc}
-use Rattle.words.specs.Words.{xor_all, swapped, Below}
-
-differ_bit : (x y : ℕ) → x < 2 → y < 2 → differ x y < 2
-differ_bit zero y hx hy = hy
-differ_bit (suc zero) zero hx hy = hx
-differ_bit (suc zero) (suc zero) hx hy = omega arith
-differ_bit (suc zero) (suc (suc y)) hx hy = absurd (omega arith)
-differ_bit (suc (suc x)) y hx hy = absurd (omega arith)
-
-differ_assoc : (x y z : ℕ) → x < 2 → y < 2 → z < 2 → differ (differ x y) z ≡ differ x (differ y z)
-differ_assoc zero y z hx hy hz = refl
-differ_assoc (suc zero) zero z hx hy hz = refl
-differ_assoc (suc zero) (suc zero) zero hx hy hz = refl
-differ_assoc (suc zero) (suc zero) (suc zero) hx hy hz = refl
-differ_assoc (suc zero) (suc zero) (suc (suc z)) hx hy hz = absurd (omega arith)
-differ_assoc (suc zero) (suc (suc y)) z hx hy hz = absurd (omega arith)
-differ_assoc (suc (suc x)) y z hx hy hz = absurd (omega arith)
-
-bit : (a : ℕ) → a % 2 < 2
-bit a = omega arith
-
-xor_odd : (a b : ℕ) → bit_xor a b % 2 ≡ differ (a % 2) (b % 2)
-xor_odd a b = omega (arith, xor_step a b, differ_bit (a % 2) (b % 2) (bit a) (bit b))
-
-xor_half : (a b : ℕ) → bit_xor a b / 2 ≡ bit_xor (a / 2) (b / 2)
-xor_half a b = xor_shr a b 1
-
-pub xor_assoc : (a b c : ℕ) → bit_xor (bit_xor a b) c ≡ bit_xor a (bit_xor b c)
-xor_assoc =
-    bin_ind (λ (n : ℕ). (b c : ℕ) → bit_xor (bit_xor n b) c ≡ bit_xor n (bit_xor b c)) (λ b c. refl)
-    (λ n ih b c.
-    xor_step (bit_xor n b) c
-    ∙ ap₂ (λ (x y : ℕ). bit_xor x (c / 2) * 2 + differ y (c % 2)) (xor_half n b) (xor_odd n b)
-    ∙ ap₂ (λ (x y : ℕ). x * 2 + y) (ih (b / 2) (c / 2)) (differ_assoc (n % 2) (b % 2) (c % 2) (bit n) (bit b) (bit c))
-    ∙ ap₂ (λ (x y : ℕ). bit_xor (n / 2) x * 2 + differ (n % 2) y) (sym (xor_half b c)) (sym (xor_odd b c))
-    ∙ sym (xor_step n (bit_xor b c)))
+use lib.Bits.{bit_xor, xor_assoc, xor_comm, xor_self, xor_zero_r, xor_lt, xor_shr, xor_mod, xor_block}
+use lib.ListN.{length, get_or, set}
+use Rattle.std.specs.Int.{w16, from_be_bytes, from_le_bytes}
+use Rattle.words.specs.Words.{xor_all, swapped, All, Below}
+use Rattle.words.proofs.Laws.{get_or_below}
+use Rattle.words.proofs.Lists.{all_parts}
 
 -- what is put in once more goes out again
 pub xor_twice : (a b : ℕ) → bit_xor (bit_xor a b) b ≡ a
@@ -61,11 +26,26 @@ unfolding xor_all
 xor_all-snoc [] w = xor_zero_r w
 xor_all-snoc (x ∷ ws) w = ap (bit_xor x) (xor_all-snoc ws w) ∙ sym (xor_assoc x (xor_all ws) w)
 
--- one word more under the fold, where both are held with their bytes swapped
-pub fold_on : (ws : List ℕ) (i x w : ℕ) → x < 65536 → w < 65536 → i < length ws → swapped w ≡ get_or ws i 0 → swapped x ≡ xor_all (take i ws)
-    → swapped (bit_xor x w) ≡ xor_all (take (i + 1) ws)
-fold_on ws i x w hx hw h e f =
-    swap_xor x w hx hw ∙ rw (add-one, take-suc ws i 0 h, xor_all-snoc) (ap₂ bit_xor f e)
+-- the fold over pairs of bytes holds their words' exclusive or with its bytes swapped
+abbrev pub Folded : List (List ℕ) → ℕ → Type 0
+Folded ps x = All (Below 256) ps → (x < 2 ^ 16) × (swapped x ≡ xor_all (map (from_be_bytes w16) ps))
+
+pub folded_none : Folded [] 0
+unfolding swapped xor_all
+folded_none _ = (omega arith, refl)
+
+-- and one pair more, that is read low byte first
+pub folded_on : (ps : List (List ℕ)) (x : ℕ) (p : List ℕ) {y : ℕ} → Folded ps x → y ≡ bit_xor x (from_le_bytes w16 p) → Folded (ps ++ (p ∷ [])) y
+unfolding swapped
+folded_on ps x p j e h =
+    let parts = all_parts (Below 256) ps (p ∷ []) h in
+    let i = j parts.0 in
+    let w = from_le_bytes w16 p in
+    let p0 : get_or p 0 0 < 256 = get_or_below 256 p 0 (omega arith) parts.1.0 in
+    let p1 : get_or p 1 0 < 256 = get_or_below 256 p 1 (omega arith) parts.1.0 in
+    let hw : w < 2 ^ 16 = omega arith in
+    let s : swapped w ≡ from_be_bytes w16 p = omega arith in
+    rw e (xor_lt 16 x w i.0 hw, swap_xor x w i.0 hw ∙ rw (map-append (from_be_bytes w16) ps (p ∷ []), xor_all-snoc) (ap₂ bit_xor i.1 s))
 
 -- a word changed in its place: the old one goes out, the new one goes in
 pub fold_patched : (ws : List ℕ) (i w : ℕ) → i < length ws → xor_all (set ws i w) ≡ bit_xor (bit_xor (xor_all ws) (get_or ws i 0)) w

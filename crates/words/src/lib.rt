@@ -1,21 +1,16 @@
 // 16-bit words in bytes, high byte first: read, put, sealed in a block; scans of them, and bytes put into a buffer.
 #![tactic(auto)]
 
-ghost use Rattle.std.specs.Prelude.{◌≡◌, ◌∷◌, [], ◌++◌, ◌+◌, ◌<◌, ◌≤◌, length, get_or, drop};
+ghost use Rattle.std.specs.Prelude.{◌≡◌, ◌∷◌, [], ◌++◌, ◌+◌, ◌<◌, ◌≤◌, length, get_or, drop, map};
+ghost use Rattle.std.specs.Int.{w16, from_be_bytes};
 ghost use Rattle.std.proofs.lemmas.List.Edits.{sets};
 ghost use Rattle.std.proofs.Math.Seq.{slice};
 ghost use Rattle.units.specs.Units.{bytes_of_words};
-ghost use Rattle.words.specs.Scans.{passing, within, word_within};
+ghost use Rattle.words.specs.Scans.{passing, word_within};
 ghost use Rattle.words.specs.Writing.{Room, Put};
-ghost use Rattle.words.specs.Words.{words_of, bytes_of, xor_all, swapped, words, most_record_words, block_from};
+ghost use Rattle.words.specs.Words.{words_of, bytes_of, xor_all, words, most_record_words, block_from, All, Below};
 
 use units::{Bytes, Words};
-
-fn wide(x: u8) -> u16
-    ensures { (result ≡ x) × (result < 256) }
-{
-    x as u16
-}
 
 // The most record words that a block has room for: all its words but the first and the last.
 pub const MOST_RECORD_WORDS: usize = 7998;
@@ -27,21 +22,12 @@ pub fn count(part: &[u8]) -> Words
     units::words_of_bytes(Bytes(part.len()))
 }
 
-// A word with its two bytes swapped.
-fn swap(w: u16) -> u16
-    ensures { result ≡ swapped w }
+// The words of a part, as their two bytes, high byte first.
+fn pairs(part: &[u8]) -> &[[u8; 2]]
+    ensures words { map (from_be_bytes w16) result.now ≡ words_of part.now }
+    ensures bytes { All (Below 256) result.now }
 {
-    let high = w / 256;
-    w % 256 * 256 + high
-}
-
-// The word with `at` words before it, read low byte first.
-fn swapped_at(part: &[u8], at: Words) -> u16
-    requires { at.0 < length (words_of part.now) }
-    ensures { swapped result ≡ get_or (words_of part.now) at.0 0 }
-{
-    let high = units::bytes_of_words(at).0;
-    wide(part[high]) + wide(part[high + 1]) * 256
+    part.as_chunks().0
 }
 
 // The word with `at` words before it.
@@ -49,7 +35,7 @@ pub fn word_at(part: &[u8], at: Words) -> u16
     requires { at.0 < length (words_of part.now) }
     ensures { result ≡ get_or (words_of part.now) at.0 0 }
 {
-    swap(swapped_at(part, at))
+    u16::from_be_bytes(pairs(part)[at.0])
 }
 
 // The words after `from` up to `upto`, as a part of the bytes.
@@ -67,68 +53,46 @@ pub fn put_word(part: &mut [u8], at: Words, w: u16)
     requires { at.0 < length (words_of part.old) }
     ensures { part.new ≡ sets part.old (bytes_of_words at.0) (bytes_of (w ∷ [])) }
 {
-    let high = units::bytes_of_words(at).0;
-    let low = high + 1;
-    part[high] = (w / 256) as u8;
-    part[low] = (w % 256) as u8;
+    write_bytes(&w.to_be_bytes(), part, units::bytes_of_words(at));
 }
 
 // The exclusive or of all words of a part: the fold takes them as the machine reads them, low byte first, and is swapped once.
 pub fn exclusive_or(part: &[u8]) -> u16
     ensures { result ≡ xor_all (words_of part.now) }
 {
-    let end = count(part).0;
-    let mut x: u16 = 0;
-    let mut i = 0;
-    while i < end {
-        x = x ^ swapped_at(part, Words(i));
-        i += 1;
-    }
-    swap(x)
+    pairs(part)
+        .iter()
+        .fold(0, |x, pair| x ^ u16::from_le_bytes(*pair))
+        .swap_bytes()
 }
 
 // Both bytes of a word lie from `least` to `most`.
 fn word_within(w: u16, least: u16, most: u16) -> bool
     ensures { result ≡ word_within least most w }
 {
-    byte_within(w / 256, least, most) && byte_within(w % 256, least, most)
-}
-
-fn byte_within(x: u16, least: u16, most: u16) -> bool
-    ensures { result ≡ within least most x }
-{
-    least <= x && x <= most
+    let within = least..=most;
+    within.contains(&(w / 256)) && within.contains(&(w % 256))
 }
 
 // The words before the first of `part` that has a byte outside of `least` to `most`.
 pub fn first_outside(part: &[u8], least: u16, most: u16) -> Words
     ensures { result.0 ≡ passing (word_within least most) (words_of part.now) }
 {
-    let end = count(part).0;
-    let mut i = 0;
-    while i < end {
-        if !word_within(word_at(part, Words(i)), least, most) {
-            return Words(i);
-        }
-        i += 1;
-    }
-    Words(i)
+    let words = pairs(part);
+    let found = words.iter().position(|pair| !word_within(u16::from_be_bytes(*pair), least, most));
+    Words(found.unwrap_or(words.len()))
 }
 
 // Puts all of `text` at a place; all other bytes stay.
+// Kept: a loop and not `copy_from_slice`, which calls `memmove`: of the C library the archive may need `memset` alone (include/cedar.h).
 pub fn write_bytes(text: &[u8], out: &mut [u8], at: Bytes) -> Bytes
     requires { Room out.old at.0 text.now }
     ensures { Put out.old at.0 text.now out.new result.0 }
 {
-    let end = text.len();
-    let mut i = 0;
-    let mut to = at.0;
-    while i < end {
-        out[to] = text[i];
-        i += 1;
-        to += 1;
+    for (i, byte) in text.iter().enumerate() {
+        out[at.0 + i] = *byte;
     }
-    Bytes(to)
+    Bytes(at.0 + text.len())
 }
 
 // Puts the length word before `records` record words, and the checksum after them; all bytes past those stay.

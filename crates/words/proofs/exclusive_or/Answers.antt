@@ -1,24 +1,16 @@
-use lib.Bits.{xor_lt}
-use Prim.Native.Nat.{◌<◌, ◌^◌}
-use Rattle.words.proofs.Xor.{fold_on}
-use Rattle.words.specs.Words.{words_of, xor_all, swapped}
-use lib.Seq.{take_all}
+use mathlib.Core.Path.{◌≡◌, ap, ◌∙◌}
 use native.Mathlib.Omega.{arith}
-use mathlib.Core.Path.{refl, ap, ◌∙◌}
+use Rattle.std.proofs.Common.{rules}
+use Rattle.std.proofs.lemmas.Fn.{fold_over, slice_gives, fronts}
+use Rattle.words.specs.Words.{xor_all, swapped}
+use Rattle.words.proofs.Xor.{Folded, folded_none, folded_on}
 use Rattle.words.proofs.exclusive_or.Goals as goal
 
-pub loop-i-init : goal.loop-i-init
-unfolding swapped xor_all
-loop-i-init c = (omega arith, omega arith, refl)
-
-pub loop-i-preserved : goal.loop-i-preserved
-loop-i-preserved c = let ws = words_of c.args.part.now in
-    let x = c.loop-i.x in
-    let w = c.swapped_at-x.result in
-    let hx : x < 2 ^ 16 = omega arith in
-    let hw : w < 2 ^ 16 = omega arith in
-    (omega arith, xor_lt 16 x w hx hw, fold_on ws c.loop-i.i x w hx hw (omega arith) c.swapped_at-x.ensures c.loop-i.invariant.2)
-
 pub returns : goal.returns
-returns c = let ws = words_of c.args.part.now in
-    c.swap.ensures ∙ c.loop-i.invariant.2 ∙ ap xor_all (take_all c.loop-i.i ws (omega arith))
+unfolding swapped
+returns c =
+    let folded = fold_over fronts (λ y. y.now) _ Folded _ (λ ps x p y f' j k. (folded_on ps x p.now j (search rules), search rules))
+    _ _ _ _ (slice_gives c.iter.result) folded_none c.fold.ensures.ran in
+    let all : Folded c.pairs.result.now c.fold.result = rw (← c.iter.ensures.rest) folded in
+    let s : c.swap_bytes.result ≡ swapped c.fold.result = omega arith in
+    s ∙ (all c.pairs.ensures.bytes).1 ∙ ap xor_all c.pairs.ensures.words

@@ -1,3 +1,4 @@
+use Rattle.std.proofs.Common.{rules}
 use Prim.Native.Nat.{◌+◌, ◌≤◌}
 use Rattle.words.proofs.Sealing.{sealed}
 use Rattle.words.proofs.Laws.{length_words_of, all_below}
@@ -17,5 +18,5 @@ put_word-requires-2 c = omega (arith, (let the_room_2 : (c.args.records.0 + 2 �
 
 pub returns : goal.returns
 returns c = let b = c.args.block.now in
-    sealed b _ c.requires.1 (all_below 256 b (λ i. omega (arith, c.slice_known-1.given i)))
+    sealed b _ c.requires.1 (all_below 256 b (λ i. search rules))
     (rw (← c.saying_words.ensures) c.put_word.ensures) c.span.ensures c.exclusive_or-checksum.ensures c.put_word-2.ensures

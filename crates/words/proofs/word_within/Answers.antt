@@ -1,15 +1,12 @@
-use Rattle.words.specs.Scans.{within, word_within}
-use Prim.Native.Nat.{◌%◌}
-use mathlib.Core.Bool.{Bool, ◌&&◌}
-use mathlib.Core.Path.{sym, ap, ◌∙◌}
+use Rattle.std.proofs.Common.{arith}
+use Rattle.std.proofs.lemmas.Bool.Decides.{nat_tests}
+use Rattle.words.specs.Scans.{word_within}
 use Rattle.words.proofs.word_within.Goals as goal
 
-pub returns-then-byte_within : goal.returns-then-byte_within
+pub returns-then-contains : goal.returns-then-contains
 unfolding word_within
-returns-then-byte_within c = let a = c.args in
-    c.byte_within-then-byte_within.ensures ∙ ap (λ (t : Bool). t && within a.least a.most (a.w % 256)) (sym c.if-byte_within.true ∙ c.byte_within.ensures)
+returns-then-contains c = grind (arith, nat_tests)
 
-pub returns-else-byte_within : goal.returns-else-byte_within
+pub returns-else-contains : goal.returns-else-contains
 unfolding word_within
-returns-else-byte_within c = let a = c.args in
-    c.if-byte_within.false ∙ ap (λ (t : Bool). t && within a.least a.most (a.w % 256)) (sym c.if-byte_within.false ∙ c.byte_within.ensures)
+returns-else-contains c = grind (arith, nat_tests)
