@@ -1,15 +1,13 @@
 -- The walk over the records, a record at a time.
-use mathlib.Core.Path.{◌≡◌, refl, sym, ap, ◌∙◌}
+use mathlib.Core.Path.{◌≡◌, refl, sym, ◌∙◌}
 use mathlib.Core.List.{List, [], ◌∷◌}
-use Prim.Native.Nat.{ℕ, zero, suc, ◌+◌, ◌-◌, ◌*◌, ◌≤◌, ◌<◌}
+use Prim.Native.Nat.{ℕ, zero, suc, ◌+◌, ◌-◌, ◌≤◌, ◌<◌}
 use native.Mathlib.Numerals.{sub-one}
 use native.Mathlib.Omega.{arith}
-use lib.ListN.{length, drop, take, length-drop, drop_of_length-le}
-use lib.Seq.{slice, drop-nil, drop-drop, take-length}
+use lib.ListN.{length, drop, length-drop}
+use lib.Seq.{drop-nil}
 use Rattle.units.specs.declared.Answer.{Answer}
 use Rattle.units.specs.Answers.{Verdict, passed, refused}
-use Rattle.words.specs.Words.{words_of}
-use Rattle.words.proofs.Laws.{words-slice}
 use Rattle.record.specs.Judging.{judge_record}
 use Rattle.record.proofs.Passed.{passed_size}
 use Rattle.block.specs.Judging.{walk}
@@ -38,44 +36,34 @@ pub walk_end : (n : ℕ) → walk 0 n [] ≡ passed (n - 1)
 unfolding walk
 walk_end n = refl
 
+walk_none : (n : ℕ) (rest : List ℕ) → length rest ≤ 0 → walk 0 n rest ≡ passed (n - 1)
+walk_none n [] h = walk_end n
+walk_none n (w ∷ ws) h = absurd (omega arith)
+
 -- ---- a loop that judges record after record
 
--- it has come to a place: what is judged from there on gives the whole
-pub record Judging (b : List ℕ) (end at number : ℕ) : Type 0 where
+-- it has come to a place: what is judged of the rest gives the whole
+pub record Judging (ws rest : List ℕ) (number : ℕ) : Type 0 where
   pub some : 1 ≤ number
-  pub few : number ≤ at + 1
-  pub within : at ≤ end
-  pub same : walk 0 1 (words_of b) ≡ walk 0 number (drop at (words_of b))
+  pub few : number + length rest ≤ length ws + 1
+  pub same : walk 0 1 ws ≡ walk 0 number rest
 
-module _ {b : List ℕ} {end at number : ℕ} (j : Judging b end at number) (size : end ≡ length (words_of b)) where
+module _ {ws rest : List ℕ} {number : ℕ} (j : Judging ws rest number) where
   -- at the end all records passed
-  pub all-judged : end ≤ at → passed (number - 1) ≡ walk 0 1 (words_of b)
-  all-judged h = sym (j.same ∙ ap (walk 0 number) (drop_of_length-le (words_of b) {i = at} (omega arith)) ∙ walk_end number)
+  pub all-judged : length rest ≤ 0 → passed (number - 1) ≡ walk 0 1 ws
+  all-judged h = sym (j.same ∙ walk_none number rest h)
 
-  -- the next record is judged in the part from here to the end
-  module _ (here : at < end) {part : List ℕ} (lent : part ≡ slice (at * 2) (end * 2) b) where
-    rest-words : words_of part ≡ drop at (words_of b)
-    rest-words = ap words_of lent ∙ words-slice at end b ∙ ap (λ n. drop at (take n (words_of b))) size ∙ ap (drop at) (take-length (words_of b))
+  -- the next record is refused
+  pub judged-stop : {v : Verdict ℕ} {r : Answer} → 0 < length rest → v ≡ judge_record number rest → v ≡ refused r → refused r ≡ walk 0 1 ws
+  judged-stop here e f = sym (j.same ∙ walk_stop number _ rest here (sym e ∙ f))
 
-    some_left : 0 < length (drop at (words_of b))
-    some_left = omega (arith, length-drop at (words_of b))
-
-    -- it is refused
-    pub judged-stop : {v : Verdict ℕ} {r : Answer} → v ≡ judge_record number (words_of part) → v ≡ refused r → refused r ≡ walk 0 1 (words_of b)
-    judged-stop e f = sym (j.same ∙ walk_stop number _ (drop at (words_of b)) some_left (sym (ap (judge_record number) rest-words) ∙ sym e ∙ f))
-
-    -- or passes
-    pub judged-on : {v : Verdict ℕ} {k : ℕ} → v ≡ judge_record number (words_of part) → v ≡ passed k → (16 ≤ k) × Judging b end (at + k) (number + 1)
-    judged-on {v} {k} e f =
-        let p = sym (ap (judge_record number) rest-words) ∙ sym e ∙ f in
-        let s = passed_size number (drop at (words_of b)) k p in
-        let l = length-drop at (words_of b) in
-        let on = walk_on number k (drop at (words_of b)) some_left p in (
-          s.least,
-          record {
-            some = omega arith;
-            few = omega (arith, j.few, s.least);
-            within = omega (arith, s.most);
-            same = j.same ∙ on ∙ ap (walk 0 (number + 1)) (drop-drop k at (words_of b));
-          },
-        )
+  -- or passes
+  pub judged-on : {v : Verdict ℕ} {k : ℕ} → 0 < length rest → v ≡ judge_record number rest → v ≡ passed k → (16 ≤ k) × (k ≤ length rest) × Judging ws (drop k rest) (number + 1)
+  judged-on {v} {k} here e f =
+      let p = sym e ∙ f in
+      let s = passed_size number rest k p in
+      let l = length-drop k rest in (
+        s.least,
+        s.most,
+        record { some = omega arith; few = omega (arith, j.few, s.least); same = j.same ∙ walk_on number k rest here p },
+      )

@@ -47,17 +47,11 @@ impl Numbered for Refusal {
 }
 
 // A byte count that is odd, under 36 or over 16,000.
+#[tactic(auto, unfolding(crate::specs::Judging::wrong_size))]
 fn wrong_size(size: Bytes) -> bool
     ensures { result ≡ wrong_size size.0 }
 {
-    let bytes = size.0;
-    if bytes % 2 != 0 {
-        return true;
-    }
-    if bytes < 36 {
-        return true;
-    }
-    16000 < bytes
+    size.0 % 2 != 0 || size.0 < 36 || 16000 < size.0
 }
 
 // The records of a block, which fill the words between its first and its last.
@@ -65,17 +59,14 @@ fn judge_records(inner: &[u8]) -> Result<u16, Refusal>
     requires { length (words_of inner.now) ≤ most_words }
     ensures { judged_of result ≡ walk 0 1 (words_of inner.now) }
 {
-    let last = words::count(inner);
-    let end = last.0;
-    let mut at = 0;
+    let mut rest = inner;
     let mut number: u16 = 1;
-    while at < end {
-        let size = record::judge_record(words::span(inner, Words(at), last), number)?;
-        at += size.0;
+    while words::count(rest).0 > 0 {
+        let size = record::judge_record(rest, number)?;
+        rest = rest.split_at(units::bytes_of_words(size).0).1;
         number += 1;
     }
-    let count = number - 1;
-    Ok(count)
+    Ok(number - 1)
 }
 
 // Judges the checksum and the records of a block whose size and length word are right.
@@ -89,7 +80,7 @@ fn judge_words(block: &[u8]) -> Result<u16, Refusal>
     let stored = words::word_at(block, last);
     let checksum = words::exclusive_or(words::span(block, Words(0), last));
     if stored != checksum {
-        let bits = u16::count_ones(stored ^ checksum) as u16;
+        let bits = (stored ^ checksum).count_ones() as u16;
         return Err(Refusal::Checksum(bits));
     }
     judge_records(words::span(block, Words(1), last))

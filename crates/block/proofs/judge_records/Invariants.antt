@@ -1,9 +1,10 @@
-use Prim.Native.Nat.{◌-◌}
+use lib.ListN.{length}
+use Rattle.words.specs.Words.{words_of}
 use Rattle.block.proofs.Walk.{Judging}
 use Rattle.block.proofs.judge_records.Given as goal
 
-abbrev pub invariant-loop-at : goal.invariant-loop-at
-invariant-loop-at l = Judging l.inner l.end l.at l.number
+abbrev pub invariant-loop-rest : goal.invariant-loop-rest
+invariant-loop-rest l = Judging (words_of l.inner) (words_of l.rest) l.number
 
-abbrev pub decreases-loop-at : goal.decreases-loop-at
-decreases-loop-at l = l.end - l.at
+abbrev pub decreases-loop-rest : goal.decreases-loop-rest
+decreases-loop-rest l = length l.rest
