@@ -9,7 +9,8 @@ use borrow.Author.Tests.{lt-ltb, le-ltb, eq-eqb, ne_eqb}
 use lib.Dec.{eqb-suc-zero, leb-suc-suc}
 use lib.ListN.{length, get_or, take, drop, length-append}
 use lib.Seq.{slice, split_at}
-use Rattle.std.specs.Prelude.{if◌then◌else◌}
+use Rattle.std.specs.Prelude.{if◌then◌else◌, Option, Some, None, Ok, Err}
+use Rattle.std.specs.Option.{ok_or}
 use Rattle.units.specs.Answers.{answer, passed, refused}
 use Rattle.units.specs.declared.Words.{Words}
 use Rattle.words.specs.Words.{words_of, joined, Below, most_words}
@@ -21,15 +22,17 @@ use Rattle.block_steps.specs.Steps.{place_of, find_of, placed}
 use Rattle.block.specs.Judging.{Accepted}
 use Rattle.block.specs.Records.{records_of}
 use Rattle.block_steps.specs.declared.Place.{Place}
-use Rattle.block_steps.specs.declared.Place.TheVariants.{Record, NoMore}
 use Rattle.block_steps.proofs.Placed.{others_left, first_left, find_record}
 use Rattle.sheet.specs.Sheets.{Entry}
 use Rattle.block_value.specs.Places.{record_number, word_number, record_in, no_record}
+use Rattle.block_value.specs.declared.Obstacle.{Obstacle}
+use Rattle.block_value.specs.declared.Obstacle.TheVariants.{NoSuchRecord}
+use Rattle.block_value.specs.Cases.{obstacle_of}
 use Rattle.block_value.specs.Exchange.{value_in, value_place}
 use Rattle.block_value.proofs.Named.{is_record}
 
 -- of records that stand one after the other: none where there is no such number, or this one behind the others
-placed_is : (rs : List (List ℕ)) (at n : ℕ) → placed rs at n ≡ (if no_record rs n then NoMore else place_of (at + length (joined (take (n - 1) rs))) (length (record_in rs n)))
+placed_is : (rs : List (List ℕ)) (at n : ℕ) → placed rs at n ≡ (if no_record rs n then None else place_of (at + length (joined (take (n - 1) rs))) (length (record_in rs n)))
 unfolding placed no_record joined
 placed_is [] at zero = refl
 placed_is [] at (suc n) = simp (eqb-suc-zero n, lt-ltb 0 (suc n) (omega arith))
@@ -50,24 +53,29 @@ pub record Located (b : List ℕ) (n : ℕ) (place size : Words) : Type 0 where
   pub within : place.0 + size.0 < length (words_of b)
   pub most : length (words_of b) ≤ most_words
 
-module _ (b : List ℕ) (bytes : Below 256 b) (accepted : Accepted b) (n : ℕ) (p : Place) (q : p ≡ find_of (words_of b) 1 n) where
-  found_is : p ≡ (if no_record (records_of b) n then NoMore else place_of (1 + length (joined (take (n - 1) (records_of b)))) (length (record_in (records_of b) n)))
+-- what the search hands on, where it finds one
+some_found : (p : Option Place) {r : Place} → ok_or p NoSuchRecord ≡ Ok r → p ≡ Some r
+some_found (Some x) f = cc
+some_found None f = absurd (cc)
+
+module _ (b : List ℕ) (bytes : Below 256 b) (accepted : Accepted b) (n : ℕ) (p : Option Place) (q : p ≡ find_of (words_of b) 1 n) where
+  found_is : p ≡ (if no_record (records_of b) n then None else place_of (1 + length (joined (take (n - 1) (records_of b)))) (length (record_in (records_of b) n)))
   found_is = q ∙ find_record b accepted.count bytes accepted.is n ∙ placed_is (records_of b) 1 n
 
-  found_none : p ≡ NoMore → no_record (records_of b) n ≡ true
+  found_none : p ≡ None → no_record (records_of b) n ≡ true
   found_none e = by (no_record (records_of b) n) _ _ (sym e ∙ found_is)
     where
-      by : (t : Bool) (at size : ℕ) → NoMore ≡ (if t then NoMore else place_of at size) → t ≡ true
+      by : (t : Bool) (at size : ℕ) → None ≡ (if t then None else place_of at size) → t ≡ true
       by true at size f = refl
       by false at size f = cc
 
-  pub located : (place size : Words) → p ≡ Record place size → Located b n place size
-  located place size e = by (no_record (records_of b) n) refl (sym e ∙ found_is)
+  pub located : {place : Place} → ok_or p NoSuchRecord ≡ Ok place → Located b n place.at place.size
+  located {place} e = by (no_record (records_of b) n) refl (sym (some_found p e) ∙ found_is)
     where
       before : List (List ℕ)
       before = take (n - 1) (records_of b)
 
-      by : (t : Bool) → no_record (records_of b) n ≡ t → Record place size ≡ (if t then NoMore else place_of (1 + length (joined before)) (length (record_in (records_of b) n))) → Located b n place size
+      by : (t : Bool) → no_record (records_of b) n ≡ t → Some place ≡ (if t then None else place_of (1 + length (joined before)) (length (record_in (records_of b) n))) → Located b n place.at place.size
       by true none f = let z : ◌≡◌ {A = ℕ} 0 1 = cc in absurd (omega arith)
       by false some f =
           let r = record_in (records_of b) n in
@@ -76,8 +84,9 @@ module _ (b : List ℕ) (bytes : Below 256 b) (accepted : Accepted b) (n : ℕ) 
           let split = split_at (records_of b) (n - 1) [] (omega (arith, is_record (records_of b) n some)) in
           let left = others_left b k bytes accepted.is before (r ∷ after) split in
           let first = first_left left in
-          let here : place.0 ≡ 1 + length (joined before) = cc in
-          let long : size.0 ≡ length r = cc in
+          let p : place ≡ record { at = record { 0 = 1 + length (joined before) }; size = record { 0 = length r } } = cc in
+          let here : place.at.0 ≡ 1 + length (joined before) = ap (λ (q : Place). q.at.0) p in
+          let long : place.size.0 ≡ length r = ap (λ (q : Place). q.size.0) p in
           record {
             there = some;
             here = here;
@@ -88,9 +97,14 @@ module _ (b : List ℕ) (bytes : Below 256 b) (accepted : Accepted b) (n : ℕ) 
           }
 
 -- there is no such record, and no place
-pub no_record_lem : (b : List ℕ) (e : Entry) (v : ℕ) (p : Place) → Below 256 b → Accepted b → p ≡ find_of (words_of b) 1 (record_number e) → p ≡ NoMore → refused (answer 41 0 0 0) ≡ value_place (records_of b) e v
+pub no_record_lem : (b : List ℕ) (e : Entry) (v : ℕ) (p : Option Place) → Below 256 b → Accepted b → p ≡ find_of (words_of b) 1 (record_number e) → p ≡ None → refused (answer 41 0 0 0) ≡ value_place (records_of b) e v
 unfolding value_place
 no_record_lem b e v p bytes accepted q f = rw (found_none b bytes accepted (record_number e) p q f)
+
+-- what the search hands on: no record, as a refusal
+pub none_found : (b : List ℕ) (e : Entry) (v : ℕ) (p : Option Place) → Below 256 b → Accepted b → p ≡ find_of (words_of b) 1 (record_number e) → {o : Obstacle} → ok_or p NoSuchRecord ≡ Err o → refused (obstacle_of o) ≡ value_place (records_of b) e v
+none_found b e v (Some r) bytes accepted q f = absurd (cc)
+none_found b e v None bytes accepted q {o = o} f = let same : NoSuchRecord ≡ o = cc in rw (← same) (no_record_lem b e v None bytes accepted q refl)
 
 -- or the place is in its part of the block
 module _ (b part : List ℕ) {n : ℕ} {place size : Words} (l : Located b n place size) (q : part ≡ slice (place.0 * 2) ((place.0 + size.0) * 2) b) where

@@ -9,6 +9,7 @@ use lib.Dec.{eqb}
 use lib.Bits.{bit_xor}
 use lib.ListN.{length, get_or, take, set, length-set}
 use lib.Seq.{set-append_left, set_at, get_or-append_seam}
+use Rattle.std.specs.Prelude.{Result, Ok, Err}
 use Rattle.units.specs.declared.Words.{Words}
 use Rattle.units.specs.Answers.{passed, refused}
 use Rattle.units.proofs.Verdicts.{else_passed}
@@ -25,8 +26,6 @@ use Rattle.sheet.specs.Sheets.{Entry}
 use Rattle.block_value.specs.Places.{record_number, word_number, record_in, no_record, no_value, found, with_value, NamesValuePlace}
 use Rattle.block_value.specs.Exchange.{Exchanged, value_place, patched}
 use Rattle.block_value.specs.declared.Obstacle.{Obstacle}
-use Rattle.block_value.specs.declared.Spot.{Spot}
-use Rattle.block_value.specs.declared.Spot.TheVariants.{Value, Refused}
 use Rattle.block_value.specs.Cases.{obstacle_of, spot_of}
 use Rattle.block_value.proofs.Named.{is_record, named_inside, named_value}
 
@@ -96,11 +95,11 @@ module _ (b : List ℕ) (rs : List (List ℕ)) (g : IsBlock b rs) (e : Entry) (v
 
 -- ---- an exchange of values
 
-module _ (b : List ℕ) (e : Entry) (old : ℕ) (spot : Spot) (q : spot_of spot ≡ value_place (records_of b) e old) where
-  pub exchange_refused : (new : ℕ) (r : Obstacle) → spot ≡ Refused r → Exchanged b e old new (refused (obstacle_of r)) b
+module _ (b : List ℕ) (e : Entry) (old : ℕ) (spot : Result Words Obstacle) (q : spot_of spot ≡ value_place (records_of b) e old) where
+  pub exchange_refused : (new : ℕ) (r : Obstacle) → spot ≡ Err r → Exchanged b e old new (refused (obstacle_of r)) b
   exchange_refused new r f = record { place = ap spot_of (sym f) ∙ q; left = refl }
 
-  module _ (bytes : Below 256 b) (accepted : Accepted b) (at : Words) (f : spot ≡ Value at) where
+  module _ (bytes : Below 256 b) (accepted : Accepted b) (at : Words) (f : spot ≡ Ok at) where
     good : IsBlock b (records_of b)
     good = (only_good b accepted.count bytes accepted.is).0
 

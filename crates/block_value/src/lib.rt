@@ -2,6 +2,7 @@
 #![tactic(auto)]
 
 ghost use Rattle.std.specs.Prelude.{◌≡◌, ◌+◌, ◌≤◌, ◌<◌, length};
+ghost use Rattle.std.proofs.Common.{arith};
 ghost use Rattle.words.specs.Words.{words_of, Below, most_words};
 ghost use Rattle.record.specs.Rules.{RecordOk};
 ghost use Rattle.block.specs.Judging.{Accepted};
@@ -10,9 +11,8 @@ ghost use Rattle.sheet.specs.Cases.{entry_of};
 ghost use Rattle.block_value.specs.Exchange.{value_in, value_place, patched, Exchanged};
 ghost use Rattle.block_value.specs.Cases.{obstacle_of, spot_of};
 
-use block_steps::Place;
 use sheet::Amendment;
-use units::{Answer, Words};
+use units::{Answer, Numbered, Words};
 
 // Why no value can be put in.
 #[derive(Clone, Copy)]
@@ -22,45 +22,48 @@ pub enum Obstacle {
     Differs(u16),
 }
 
-// A value's place, as the words of the block before it; or why there is none.
-#[derive(Clone, Copy)]
-pub enum Spot {
-    Value(Words),
-    Refused(Obstacle),
+impl Numbered for Obstacle {
+    ghost numbers_of = { obstacle_of };
+
+    ghost room = { 65536 };
+
+    ghost packs = { Prim.omega arith };
+
+    fn numbers(self) -> Answer {
+        match self {
+            Obstacle::NoSuchRecord => units::row(41, 0, 0, 0),
+            Obstacle::NoValue => units::row(42, 0, 0, 0),
+            Obstacle::Differs(found) => units::row(43, found, 0, 0),
+        }
+    }
 }
 
-// Word `word` of a good record with `at` words of the block before it, if it may be amended and is `value`.
-fn value_in(whole: &[u8], at: Words, word: u16, value: u16) -> Spot
+// Word `word` of a good record with `at` words of the block before it, if it may be amended and is `value`: the words before it.
+fn value_in(whole: &[u8], at: Words, word: u16, value: u16) -> Result<Words, Obstacle>
     requires { RecordOk (words_of whole.now) × (at.0 ≤ most_words) }
     ensures { spot_of result ≡ value_in (words_of whole.now) at.0 word value }
 {
     let number = units::words_said(word);
     if !record::is_value(whole, number) {
-        return Spot::Refused(Obstacle::NoValue);
+        return Err(Obstacle::NoValue);
     }
-    let i = number.0 - 1;
-    let found = words::word_at(whole, Words(i));
+    let before = number.0 - 1;
+    let found = words::word_at(whole, Words(before));
     if value != found {
-        return Spot::Refused(Obstacle::Differs(found));
+        return Err(Obstacle::Differs(found));
     }
-    let start = at.0;
-    Spot::Value(Words(start + i))
+    Ok(Words(at.0 + before))
 }
 
 // The place that an amendment names, if `value` stands there.
-fn find_value(block: &[u8], e: Amendment, value: u16) -> Spot
+fn find_value(block: &[u8], e: Amendment, value: u16) -> Result<Words, Obstacle>
     requires { Below 256 block.now × Accepted block.now }
     ensures { spot_of result ≡ value_place (records_of block.now) (entry_of e) value }
 {
-    match block_steps::find(block, e.number) {
-        Place::NoMore => Spot::Refused(Obstacle::NoSuchRecord),
-        Place::Record(at, size) => {
-            let start = at.0;
-            let count = size.0;
-            let end = start + count;
-            value_in(words::span(block, at, Words(end)), at, e.word, value)
-        }
-    }
+    let place = block_steps::find(block, e.number).ok_or(Obstacle::NoSuchRecord)?;
+    let end = place.at.0 + place.size.0;
+    let whole = words::span(block, place.at, Words(end));
+    value_in(whole, place.at, e.word, value)
 }
 
 // Puts a value in place of the old one, and patches the checksum with both.
@@ -74,27 +77,12 @@ fn put_value(block: &mut [u8], at: Words, old: u16, new: u16)
     words::put_word(block, Words(last), checksum ^ old ^ new);
 }
 
-// Puts `new` at the place that an amendment names, if `old` stands there.
-pub fn exchange(block: &mut [u8], e: Amendment, old: u16, new: u16) -> Spot
+// Puts `new` at the place that an amendment names, if `old` stands there: the words before that place.
+pub fn exchange(block: &mut [u8], e: Amendment, old: u16, new: u16) -> Result<Words, Obstacle>
     requires { Below 256 block.old × Accepted block.old }
     ensures { Exchanged block.old (entry_of e) old new (spot_of result) block.new }
 {
-    match find_value(block, e, old) {
-        Spot::Refused(r) => Spot::Refused(r),
-        Spot::Value(at) => {
-            put_value(block, at, old, new);
-            Spot::Value(at)
-        }
-    }
-}
-
-// The four numbers of a refusal.
-pub fn numbers(o: Obstacle) -> Answer
-    ensures { (result ≡ obstacle_of o) × (result.a < 65536) }
-{
-    match o {
-        Obstacle::NoSuchRecord => units::row(41, 0, 0, 0),
-        Obstacle::NoValue => units::row(42, 0, 0, 0),
-        Obstacle::Differs(found) => units::row(43, found, 0, 0),
-    }
+    let at = find_value(block, e, old)?;
+    put_value(block, at, old, new);
+    Ok(at)
 }

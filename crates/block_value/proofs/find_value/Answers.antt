@@ -1,20 +1,25 @@
-use mathlib.Core.Path.{refl, ◌∙◌}
+use mathlib.Core.Path.{refl, sym, ◌∙◌}
 use native.Mathlib.Omega.{arith}
-use Rattle.block_value.proofs.Located.{Located, located, no_record_lem, part_ok, part_value}
+use Rattle.std.proofs.lemmas.Result.{err_from_is_err_and}
+use Rattle.block_value.proofs.Located.{located, none_found, part_ok, part_value}
 use Rattle.block_value.proofs.find_value.Goals as goal
 
-pub overflow_add-end : goal.overflow_add-end
-overflow_add-end c = let it : Located c.args.block.now c.args.e.number c.in-Record.at c.in-Record.size = search located in omega (arith, it)
+pub returns-in_err-place : goal.returns-in_err-place
+returns-in_err-place c =
+    let p = err_from_is_err_and c.from_residual.result c.from_residual.ensures.1 in
+    rw (p.1, p.2) (none_found _ _ _ _ c.requires.0 c.requires.1 c.find.ensures (sym c.ok_or.ensures.value ∙ c.in_err-place.was))
 
-pub span-requires : goal.span-requires
-span-requires c = let it : Located c.args.block.now c.args.e.number c.in-Record.at c.in-Record.size = search located in omega (arith, it)
+pub overflow_add-end : goal.overflow_add-end
+overflow_add-end c = let it = located _ c.requires.0 c.requires.1 _ _ c.find.ensures (sym c.ok_or.ensures.value ∙ c.in_ok-place.was) in omega (arith, it)
+
+pub span-whole-requires : goal.span-whole-requires
+span-whole-requires c = let it = located _ c.requires.0 c.requires.1 _ _ c.find.ensures (sym c.ok_or.ensures.value ∙ c.in_ok-place.was) in omega (arith, it)
 
 pub value_in-requires : goal.value_in-requires
-value_in-requires c = let it : Located c.args.block.now c.args.e.number c.in-Record.at c.in-Record.size = search located in (part_ok _ _ it c.span.ensures, omega (arith, it))
+value_in-requires c =
+    let it = located _ c.requires.0 c.requires.1 _ _ c.find.ensures (sym c.ok_or.ensures.value ∙ c.in_ok-place.was) in (part_ok _ _ it c.span-whole.ensures, omega (arith, it))
 
-pub returns-in-NoMore : goal.returns-in-NoMore
-returns-in-NoMore c = search no_record_lem
-
-pub returns-in-Record : goal.returns-in-Record
-returns-in-Record c = let it : Located c.args.block.now c.args.e.number c.in-Record.at c.in-Record.size = search located in
-    c.value_in.ensures ∙ part_value _ _ it c.span.ensures _ refl _
+pub returns : goal.returns
+returns c =
+    let it = located _ c.requires.0 c.requires.1 _ _ c.find.ensures (sym c.ok_or.ensures.value ∙ c.in_ok-place.was) in
+    c.value_in.ensures ∙ part_value _ _ it c.span-whole.ensures _ refl _

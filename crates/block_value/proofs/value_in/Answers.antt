@@ -11,8 +11,8 @@ is_value-requires c = search ok_long
 pub returns-then-not-is_value : goal.returns-then-not-is_value
 returns-then-not-is_value c = search value_none
 
-pub overflow_sub-i : goal.overflow_sub-i
-overflow_sub-i c = let there : ValueAt (words_of c.args.whole.now) c.args.word = search value_there in omega (arith, there)
+pub overflow_sub-before : goal.overflow_sub-before
+overflow_sub-before c = let there : ValueAt (words_of c.args.whole.now) c.args.word = search value_there in omega (arith, there)
 
 pub word_at-found-requires : goal.word_at-found-requires
 word_at-found-requires c = let there : ValueAt (words_of c.args.whole.now) c.args.word = search value_there in omega (arith, there)
