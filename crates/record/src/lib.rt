@@ -14,12 +14,6 @@ ghost use Rattle.record.specs.Values.{is_value};
 use counts::Counts;
 use units::{Answer, Lines, Numbered, Words};
 
-pub const CATALOGUE: u16 = 2001;
-
-pub const HEADER: u16 = 3002;
-
-pub const DATA: u16 = 1002;
-
 mod kind;
 
 pub use crate::kind::Kind;
