@@ -10,14 +10,14 @@ use Rattle.words.specs.Outcomes.{Written, written, leaves}
 use Rattle.block.specs.Judging.{judged}
 use Rattle.block.specs.Cases.{judged_of, refusal_of}
 use Rattle.block.specs.declared.Refusal.{Refusal}
-use Rattle.block.specs.declared.Judged.{Judged}
-use Rattle.block.specs.declared.Judged.TheVariants.{Records, Refused}
 use Rattle.block.specs.Records.{records_of}
 use Rattle.block.proofs.Known.{KnownBlock, judged_known}
 use Rattle.words.specs.Words.{Below}
 use Rattle.words.proofs.Writing.{written_told}
 use Rattle.write_lines.proofs.Sizes.{text_bound}
-use Rattle.write_lines.specs.declared.Lined.{Lined}
+use Rattle.units.specs.declared.Bytes.{Bytes}
+use Rattle.units.specs.declared.Unwritten.{Unwritten}
+use Rattle.std.specs.Prelude.{Result, Ok, Err}
 use Rattle.write_lines.specs.Cases.{LinesRow, lined_of}
 use Rattle.write_lines.specs.Promises.{WritesLines}
 use Rattle.write_lines.specs.Text.{text_of, to_lines}
@@ -31,11 +31,11 @@ unfolding to_lines
 when_accepted b out k e = rw e
 
 -- the same, by what the judge returned
-module _ (b out : List ℕ) {j : Judged} (e : judged_of j ≡ judged b) where
-  pub lines_refused : {r : Refusal} → j ≡ Refused r → leaves (refusal_of r) out ≡ to_lines b out
+module _ (b out : List ℕ) {j : Result ℕ Refusal} (e : judged_of j ≡ judged b) where
+  pub lines_refused : {r : Refusal} → j ≡ Err r → leaves (refusal_of r) out ≡ to_lines b out
   lines_refused is = sym (when_refused b out _ (sym e ∙ ap judged_of is))
 
-  pub lines_accepted : {k : ℕ} {w : Written} → j ≡ Records k → w ≡ written 29 out (passed (text_of (records_of b))) → w ≡ to_lines b out
+  pub lines_accepted : {k : ℕ} {w : Written} → j ≡ Ok k → w ≡ written 29 out (passed (text_of (records_of b))) → w ≡ to_lines b out
   lines_accepted is put = put ∙ sym (when_accepted b out _ (sym e ∙ ap judged_of is))
 
 -- the answer's numbers: with 0 and 29 at most 55,971 bytes
@@ -53,5 +53,5 @@ outcome_told b out h = by (judged b) refl (judged_known b h)
         rw (when_accepted b out k e) (listed w.0, w.1)
 
 -- so an outcome that is the definition's keeps the promise
-pub promised : (b text : List ℕ) → Below 256 b → {r : Lined} {after : List ℕ} → leaves (lined_of r) after ≡ to_lines b text → WritesLines b text r after
+pub promised : (b text : List ℕ) → Below 256 b → {r : Result Bytes (Unwritten Refusal)} {after : List ℕ} → leaves (lined_of r) after ≡ to_lines b text → WritesLines b text r after
 promised b text h e = record { outcome = e; packs = rw (ap (λ w. w.answer) e) (outcome_told b text h).1 }

@@ -1,6 +1,6 @@
 use native.Mathlib.Omega.{arith}
 use Rattle.words.proofs.Laws.{all_below}
-use Rattle.block_steps.proofs.Loops.{loop_start, turn, loop_on, loop_end}
+use Rattle.block_steps.proofs.Turns.{loop_start, turn, loop_on, loop_end}
 use Rattle.write_lines.specs.Text.{text_of}
 use Rattle.write_lines.proofs.Sizes.{counted, text_bound}
 use Rattle.write_lines.proofs.text_size.Goals as goal
@@ -8,26 +8,20 @@ use Rattle.write_lines.proofs.text_size.Goals as goal
 pub loop-whole-init : goal.loop-whole-init
 loop-whole-init c = let b = c.args.block.now in
     let below = all_below 256 b (λ i. omega (arith, c.type_inv.block i)) in
-    loop_start b below c.requires (record { total = omega arith; most = text_bound b below c.requires })
-
-pub returns-then-n-eq0 : goal.returns-then-n-eq0
-unfolding text_of
-returns-then-n-eq0 c = omega (arith, loop_end c.loop-whole.invariant c.record_at-whole.ensures c.count-n.ensures c.if-n-eq0.true)
+    loop_start b below c.requires c.records-whole-items.ensures c.into_iter-whole-iterator.ensures.into_iter_gives (record { total = omega arith; most = text_bound b below c.requires })
 
 -- the first record that is left, and its bytes
 pub record_size-bytes-requires : goal.record_size-bytes-requires
-record_size-bytes-requires c = (turn c.loop-whole.invariant c.record_at-whole.ensures c.count-n.ensures c.if-n-eq0.false).good
+record_size-bytes-requires c = (turn c.loop-whole.invariant _ _ c.next.ensures.steps c.in-Some.is).good
 
 pub overflow_add-bytes : goal.overflow_add-bytes
-overflow_add-bytes c = let t = turn c.loop-whole.invariant c.record_at-whole.ensures c.count-n.ensures c.if-n-eq0.false in
+overflow_add-bytes c = let t = turn c.loop-whole.invariant _ _ c.next.ensures.steps c.in-Some.is in
     omega (arith, counted t.holds c.record_size-bytes.ensures)
 
-pub overflow_add-at : goal.overflow_add-at
-overflow_add-at c = omega (arith, turn c.loop-whole.invariant c.record_at-whole.ensures c.count-n.ensures c.if-n-eq0.false)
-
-pub loop-whole-smaller : goal.loop-whole-smaller
-loop-whole-smaller c = omega (arith, turn c.loop-whole.invariant c.record_at-whole.ensures c.count-n.ensures c.if-n-eq0.false)
-
 pub loop-whole-preserved : goal.loop-whole-preserved
-loop-whole-preserved c = let t = turn c.loop-whole.invariant c.record_at-whole.ensures c.count-n.ensures c.if-n-eq0.false in
+loop-whole-preserved c = let t = turn c.loop-whole.invariant _ _ c.next.ensures.steps c.in-Some.is in
     loop_on t (counted t.holds c.record_size-bytes.ensures)
+
+pub returns : goal.returns
+unfolding text_of
+returns c = omega (arith, loop_end c.loop-whole.invariant _ _ c.next.ensures.steps c.in-None.is)
