@@ -1,5 +1,5 @@
 -- What is known of a Data record's first fields once they are accepted.
-use mathlib.Core.Path.{◌≡◌, refl, sym, ◌∙◌}
+use mathlib.Core.Path.{◌≡◌, refl, sym}
 use mathlib.Core.Bool.{Bool, true, false}
 use mathlib.Core.List.{List, ◌++◌}
 use Prim.Native.Nat.{ℕ, ◌+◌, ◌-◌, ◌*◌, ◌≤◌, ◌<◌, min}
@@ -7,7 +7,7 @@ use native.Mathlib.Omega.{arith}
 use borrow.Author.Tests.{ltb-true, ltb-false}
 use lib.Dec.{ltb, eqb}
 use lib.ListN.{length, get_or, take, length-take, get_or-append, get_or-eq_default}
-use lib.Seq.{get_or-take}
+use lib.Seq.{get_or-take, length-take-le}
 use Rattle.units.specs.Answers.{answer, Verdict, passed, refused, onward}
 use Rattle.units.proofs.Verdicts.{never_passed, else_passed}
 use Rattle.units.proofs.Choosing.{both_ways}
@@ -15,6 +15,9 @@ use Rattle.words.specs.Words.{word}
 use Rattle.counts.specs.Counts.{counts_of, in_range}
 use Rattle.counts.proofs.FourCounts.{range_ok}
 use Rattle.read_columns.specs.Columns.{column_of, field_numbers, zero_fields, blank_after}
+use Rattle.record.specs.declared.kind.Kind.{Kind}
+use Rattle.record.specs.declared.kind.Kind.TheVariants.{Data}
+use Rattle.read_first_line.specs.State.{head_in, Lent, LentData}
 use Rattle.read_first_line.specs.FirstLine.{Head, cards, counts, counts_in, count_fields, catalogue_fields, header_fields, prologue_fields, data_fields, kind_fields, first_fields}
 
 -- LPROL, word 13, is at least 16: so it is there
@@ -53,9 +56,6 @@ module _ (num : ℕ) (l first x : List ℕ) (e : passed x ≡ count_fields num l
   pub lprol_counted : LprolLeast x
   lprol_counted = counted_by LprolLeast (λ more h. h)
 
-  kind_counted : 1 < length first → get_or x 1 0 ≡ get_or first 1 0
-  kind_counted long = counted_by (λ x. get_or x 1 0 ≡ get_or first 1 0) (λ more _. get_or-append first more 0 1 long)
-
 -- a verdict that gives a Data record gives LPROL in range
 abbrev GivesLprol : Verdict Head → Type 0
 GivesLprol v = (ws : List ℕ) → passed (counts ws) ≡ v → LprolLeast ws
@@ -83,23 +83,6 @@ module _ (num : ℕ) (l : List ℕ) where
   data_least : (first : List ℕ) → GivesLprol (data_fields num l first)
   data_least first ws =
       data_by LprolLeast first ws (λ r more f. let h = lprol_counted num l first r f in rw (get_or-append r more 0 12 (long_enough r h)) h)
-
-  -- field 2 stands where it stood
-  pub data_kept : (first : List ℕ) (n : ℕ) (row : List ℕ) → 1 < length first → passed (counts (take n row)) ≡ data_fields num l first → get_or row 1 0 ≡ get_or first 1 0
-  data_kept first n row long e =
-      let h = long_enough (take n row) (data_least first (take n row) e) in
-      let same : get_or (take n row) 1 0 ≡ get_or first 1 0 = data_by (λ ws. get_or ws 1 0 ≡ get_or first 1 0) first (take n row)
-      (λ r more f. let k = long_enough r (lprol_counted num l first r f) in get_or-append r more 0 1 (omega arith) ∙ kind_counted num l first r f long) e in
-      sym (get_or-take n row 1 0 (omega (arith, length-take n row))) ∙ same
-
-  pub header_kept : (first ws : List ℕ) → 1 < length first → passed (cards 3002 ws) ≡ header_fields num l first → get_or ws 1 0 ≡ get_or first 1 0
-  unfolding header_fields
-  header_kept first ws long e = by (field_numbers num l 12 3) (zero_fields num l 15 5) e
-    where
-      by : (v : Verdict (List ℕ)) (u : Verdict (Unit {0})) → passed (cards 3002 ws) ≡ onward v (λ more. onward u (λ _. passed (cards 3002 (first ++ more)))) → get_or ws 1 0 ≡ get_or first 1 0
-      by (passed more) (passed y) g = let same : ws ≡ first ++ more = cc in rw same (get_or-append first more 0 1 long)
-      by (passed more) (refused a) g = absurd (never_passed (sym g))
-      by (refused a) u g = absurd (never_passed (sym g))
 
   -- the others give none
   no_counts : {A : Type 0} (kind : ℕ) (x : A → List ℕ) (v : Verdict A) → GivesLprol (onward v (λ y. passed (cards kind (x y))))
@@ -132,3 +115,12 @@ module _ (num : ℕ) (l : List ℕ) where
       by : (v : Verdict (List ℕ)) → GivesLprol (onward v (λ first. kind_fields num l first))
       by (passed first) = kind_least first
       by (refused a) = λ ws e. absurd (never_passed (sym e))
+
+-- so a Data record's first line lends as many fields as LPROL, at most 20, says
+pub data_lent : (num : ℕ) (l row : List ℕ) {held said used : ℕ} (kind : Kind) → passed (head_in kind row) ≡ first_fields num l → kind ≡ Data → length row ≡ 20 → Lent held → said ≡ get_or row 12 0 → used ≡ min said 20
+    → LentData (take used row) held
+data_lent num l row {used = used} kind e is long lent s u =
+    let known : passed (counts (take (min (get_or row 12 0) 20) row)) ≡ first_fields num l = rw is at e in
+    let low : 16 ≤ get_or row 12 0 = least_take _ row (first_least num l _ known) in
+    let stays : get_or (take used row) 12 0 ≡ get_or row 12 0 = get_or-take used row 12 0 (omega arith) in
+    record { lent = lent; lprol = omega arith; all = omega (arith, length-take-le used row (omega arith)) }

@@ -1,12 +1,5 @@
-use Rattle.read_first_line.proofs.Puts.{cards_fit, cards-flaw, cards-good}
-use borrow.Author.Rules.{rules}
+use Rattle.read_first_line.proofs.Heads.{cards_most}
 use Rattle.read_first_line.proofs.cards_line.Goals as goal
 
-pub returns-in-Flawed : goal.returns-in-Flawed
-returns-in-Flawed c = search cards-flaw
-
 pub put_cards-requires : goal.put_cards-requires
-put_cards-requires c = search (cards_fit, rules)
-
-pub returns : goal.returns
-returns c = search cards-good
+put_cards-requires c = (c.requires, cards_most _ _ _ c.in_ok-cards_room.ensures)

@@ -1,12 +1,8 @@
-use Rattle.read_first_line.proofs.Puts.{data_fits, data-flaw, data-good}
-use borrow.Author.Rules.{rules}
+use mathlib.Core.Path.{ap}
+use native.Mathlib.Omega.{arith}
+use Rattle.counts.specs.Counts.{words_needed}
+use Rattle.read_first_line.proofs.Heads.{room_most}
 use Rattle.read_first_line.proofs.data_line.Goals as goal
 
-pub returns-in-Flawed : goal.returns-in-Flawed
-returns-in-Flawed c = search data-flaw
-
 pub put_data-requires : goal.put_data-requires
-put_data-requires c = search (data_fits, rules)
-
-pub returns : goal.returns
-returns c = search data-good
+put_data-requires c = (c.requires, omega (arith, room_most _ _ _ c.row_counts.result c.in_ok-data_room.ensures, ap words_needed c.row_counts.ensures))
