@@ -1,3 +1,3 @@
-pub mod ToCome
 pub mod Cards
+pub mod ToCome
 pub mod Later

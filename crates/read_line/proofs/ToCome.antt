@@ -1,7 +1,8 @@
 -- The lines to come of a record, as they get fewer.
 use mathlib.Core.Path.{◌≡◌, refl, ap, ap₂, ◌∙◌}
 use mathlib.Core.List.{List, [], ◌∷◌, ◌++◌, map, append_assoc}
-use Prim.Native.Nat.{ℕ, zero, suc, ◌-◌, ◌<◌, min}
+use mathlib.Core.Logic.{◌⊎◌, inl, inr}
+use Prim.Native.Nat.{ℕ, zero, suc, ◌-◌, ◌≤◌, ◌<◌, min}
 use native.Mathlib.Omega.{arith}
 use lib.ListN.{replicate}
 use Rattle.line_plan.specs.Plan.{part, times}
@@ -23,12 +24,12 @@ next_part left n w ns e h =
     let s : n ≡ suc (n - 1) = omega arith in
     rw e (ap (λ k. times k (part w) ++ ns) s ∙ append_assoc (part w) (times (n - 1) (part w)) ns)
 
--- the same of the last sort
-pub next_row : (left n w : ℕ) → left ≡ 0 → 0 < n → part w ++ times (n - 1) (part w) ≡ part left ++ times n (part w)
+-- the same of the last sort, where the other has none
+pub next_row : (left n w : ℕ) (singles : List ℕ) → singles ≡ [] → left ≡ 0 → 0 < n → part left ++ (singles ++ times n (part w)) ≡ part w ++ (singles ++ times (n - 1) (part w))
 unfolding part times
-next_row left n w e h =
-    let s : suc (n - 1) ≡ n = omega arith in
-    rw e (ap (λ k. times k (part w)) s)
+next_row left n w singles none e h =
+    let s : n ≡ suc (n - 1) = omega arith in
+    rw (none, e) (ap (λ k. times k (part w)) s)
 
 -- no part has fields
 pub no_parts : (left : ℕ) {singles rows : List ℕ} → left ≡ 0 → singles ≡ [] → rows ≡ [] → part left ++ (singles ++ rows) ≡ []
@@ -54,3 +55,8 @@ pub fields_less : (p : Rest) → p.cards.0 ≡ 0 → 0 < p.left.0 →
     to_come p ≡ fields n ∷ map fields (part (p.left.0 - n) ++ (times p.singles (part p.jpar.0) ++ times p.rows (part p.mpar.0)))
 unfolding to_come lines_left
 fields_less p e h = ap₂ (λ n ls. replicate n card ++ map fields ls) e (line_less p.left.0 (times p.singles (part p.jpar.0) ++ times p.rows (part p.mpar.0)) h)
+
+-- no parts, or parts without fields
+pub no_lines : (n w : ℕ) → (0 < n × w ≤ 0) ⊎ n ≤ 0 → times n (part w) ≡ []
+no_lines n w (inl h) = times_none n w (omega arith)
+no_lines n w (inr h) = times_zero n w (omega arith)

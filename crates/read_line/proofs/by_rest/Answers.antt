@@ -1,15 +1,9 @@
-use Rattle.read_line.proofs.Later.{as_settled, none_settled, nothing_left}
-use borrow.Author.Rules.{rules}
+use mathlib.Core.Path.{sym}
+use Rattle.read_line.proofs.Later.{nothing_left}
 use Rattle.read_line.proofs.by_rest.Goals as goal
 
-pub returns-then-q-gt0 : goal.returns-then-q-gt0
-returns-then-q-gt0 c = search as_settled
-
-pub returns-then-q-gt0-2 : goal.returns-then-q-gt0-2
-returns-then-q-gt0-2 c = search as_settled
-
 pub between-requires : goal.between-requires
-between-requires c = search (nothing_left, rules)
+between-requires c = (nothing_left c.settled-rest.result c.settled-rest.ensures.1 c.if-rest-gt0.false c.if-rest-gt0-2.false, c.requires)
 
 pub returns : goal.returns
-returns c = search (none_settled, nothing_left)
+returns c = rw (sym c.settled-rest.ensures.0, nothing_left c.settled-rest.result c.settled-rest.ensures.1 c.if-rest-gt0.false c.if-rest-gt0-2.false) c.between.ensures

@@ -4,4 +4,4 @@ use Rattle.read_line.proofs.one_card_less.Goals as goal
 
 pub returns : goal.returns
 unfolding lines_left to_come
-returns c = rw c.with_left.ensures (card_less c.args.p c.requires)
+returns c = card_less c.args.p c.requires

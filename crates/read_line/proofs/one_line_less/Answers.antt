@@ -1,7 +1,17 @@
-use Rattle.read_line.proofs.ToCome.{fields_less}
+use mathlib.Core.Path.{sym, ap, ◌∙◌}
+use mathlib.Core.List.{◌∷◌, ◌++◌, map}
+use Prim.Native.Nat.{◌-◌, min}
+use lib.ListN.{replicate}
+use Rattle.line_plan.specs.Plan.{part, times}
+use Rattle.read_first_line.specs.FirstLine.{card, fields}
 use Rattle.read_first_line.specs.State.{to_come, lines_left}
+use Rattle.read_line.proofs.ToCome.{fields_less}
 use Rattle.read_line.proofs.one_line_less.Goals as goal
 
 pub returns : goal.returns
 unfolding lines_left to_come
-returns c = rw (c.with_left.ensures, c.requires.1) (fields_less c.args.p c.requires.0.no_cards c.requires.0.some_left)
+returns c =
+    let p = c.args.p in
+    let h = c.requires.0 in
+    let left = p.left.0 - min p.left.0 20 in
+    rw c.requires.1 (fields_less p h.no_cards h.some_left ∙ ap (λ n. fields (min p.left.0 20) ∷ (replicate n card ++ map fields (part left ++ (times p.singles (part p.jpar.0) ++ times p.rows (part p.mpar.0))))) (sym h.no_cards))

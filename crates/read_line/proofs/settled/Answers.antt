@@ -1,22 +1,27 @@
-use Rattle.read_line.proofs.ToCome.{times_zero, next_part}
-use mathlib.Core.Path.{refl, sym, ap, ◌∙◌}
+use mathlib.Core.Path.{refl, sym, ap}
 use mathlib.Core.List.{◌++◌, map}
 use native.Mathlib.Omega.{arith}
 use lib.ListN.{replicate}
 use Rattle.line_plan.specs.Plan.{part, times}
 use Rattle.read_first_line.specs.FirstLine.{card, fields}
 use Rattle.read_first_line.specs.State.{to_come, lines_left}
+use Rattle.read_line.proofs.ToCome.{next_part, next_row, no_parts, no_lines}
 use Rattle.read_line.proofs.settled.Goals as goal
 
-pub returns-then-p-gt0 : goal.returns-then-p-gt0
-returns-then-p-gt0 c = (refl, λ e. absurd (omega (arith, c.if-p-gt0.true)))
-
-pub returns-then-singles-gt0 : goal.returns-then-singles-gt0
+pub returns-then-p-gt0-3 : goal.returns-then-p-gt0-3
 unfolding lines_left to_come
-returns-then-singles-gt0 c = let p = c.args.p in let rest = times p.rows (part p.mpar.0) in (
-  ap (λ l. replicate p.cards.0 card ++ map fields l) (sym (next_part p.left.0 c.parts-singles.result p.jpar.0 rest (omega (arith, c.if-p-gt0.false)) c.if-singles-gt0.true) ∙ ap (λ l. part p.left.0 ++ (l ++ rest)) c.parts-singles.ensures.1),
-  λ e. absurd (omega (arith, c.parts-singles.ensures.2 c.if-singles-gt0.true)),
+returns-then-p-gt0-3 c = let p = c.args.p in (
+  ap (λ l. replicate p.cards.0 card ++ map fields l) (sym (next_part p.left.0 p.singles p.jpar.0 (times p.rows (part p.mpar.0)) (omega arith) (omega arith))),
+  λ e. absurd (omega arith),
 )
 
-pub next_row-requires : goal.next_row-requires
-next_row-requires c = let p = c.args.p in (omega (arith, c.if-p-gt0.false), sym c.parts-singles.ensures.1 ∙ times_zero c.parts-singles.result p.jpar.0 (omega (arith, c.if-singles-gt0.false)))
+pub returns-then-p-gt0-5 : goal.returns-then-p-gt0-5
+unfolding lines_left to_come
+returns-then-p-gt0-5 c = let p = c.args.p in (
+  ap (λ l. replicate p.cards.0 card ++ map fields l) (sym (next_row p.left.0 p.rows p.mpar.0 (times p.singles (part p.jpar.0)) (no_lines p.singles p.jpar.0 c.else-p-gt0-2.either) (omega arith) (omega arith))),
+  λ e. absurd (omega arith),
+)
+
+pub returns : goal.returns
+unfolding lines_left
+returns c = let p = c.args.p in (refl, λ e. no_parts p.left.0 e (no_lines p.singles p.jpar.0 c.else-p-gt0-2.either) (no_lines p.rows p.mpar.0 c.else-p-gt0-4.either))
