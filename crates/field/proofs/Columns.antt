@@ -1,9 +1,11 @@
 -- The scan of a field, column by column.
-use Rattle.std.proofs.Common.{◌≡◌, ℕ, zero, suc, ◌+◌, ◌-◌, ◌*◌, ◌%◌, ◌^◌, ◌<◌, ◌≤◌, Bool, true, false, ◌&&◌, eqb, leb, List, [], ◌∷◌, length, get_or, refl, ap, ◌∙◌, add-zero, pow-suc, arith, ne_eqb, le-leb, leb-true, Option, None}
+use Rattle.std.proofs.Common.{◌≡◌, ℕ, zero, suc, ◌+◌, ◌-◌, ◌*◌, ◌%◌, ◌^◌, ◌<◌, ◌≤◌, Bool, true, false, ◌&&◌, eqb, leb, List, ◌∷◌, length, get_or, take, drop, slice_range, refl, sym, ap, pow-suc, arith, drop-cons, length-drop, length-take, ne_eqb, le-leb, leb-true, Option, None}
 use native.Mathlib.Nat.{pow-le-pow_right}
-use lib.ListN.{get_or-eq_default}
+use Rattle.std.proofs.lemmas.List.{take_all}
+use lib.ListN.{get_or-eq_default, drop_of_length-le}
 use Rattle.units.proofs.Verdicts.{and_on}
 use Rattle.units.proofs.Choosing.{by_test, both_ways}
+use Rattle.std.specs.Array.{IsFirstChunk}
 use Rattle.field.specs.declared.Scan.{Scan}
 use Rattle.field.specs.declared.Scan.TheVariants.{Blank, Sign, Digits, Spoiled}
 use Rattle.field.specs.Reading.{with_digit, after_column, finish_of, scan_of, read_field, columns, so_far}
@@ -24,15 +26,6 @@ module _ (minus : Bool) (m b d : ℕ) (wraps : (d + 48) % 2 ^ 32 ≡ b) (fits : 
 
 -- while all was blank
 module _ (s : Scan) (b : ℕ) (e : s ≡ Blank) where
-  pub a_blank : b ≡ 32 → Blank ≡ after_column s b
-  a_blank h = rw (e, h)
-
-  pub a_minus : b ≡ 45 → Sign true ≡ after_column s b
-  a_minus h = rw (e, h)
-
-  pub a_plus : b ≡ 43 → Sign false ≡ after_column s b
-  a_plus h = rw (e, h)
-
   pub first-digit : (r : Scan) → (b ≡ 32 → ⊥) → (b ≡ 45 → ⊥) → (b ≡ 43 → ⊥) → r ≡ with_digit false 0 b → r ≡ after_column s b
   first-digit r h k l d = rw e (simp (ne_eqb b 32 h, ne_eqb b 45 k, ne_eqb b 43 l) d)
 
@@ -63,46 +56,47 @@ grows (Sign minus) b = digit_grows minus 0 b
 grows (Digits minus m) b = digit_grows minus m b
 grows Spoiled b = omega arith
 
--- ---- the columns of a line
-
--- within a list the default does not matter
-get_or_within : (l : List ℕ) (i d e : ℕ) → i < length l → get_or l i d ≡ get_or l i e
-get_or_within [] i d e h = absurd (omega arith)
-get_or_within (x ∷ xs) zero d e h = refl
-get_or_within (x ∷ xs) (suc i) d e h = get_or_within xs i d e (omega arith)
+-- ---- the columns of a field, one after the other
 
 -- the scan stands before column i: it goes on as the whole scan does
-pub record Scanned (line : List ℕ) (at i : ℕ) (s : Scan) : Type 0 where
-  pub within : i ≤ 6
+pub record Scanned (field : List ℕ) (i : ℕ) (s : Scan) : Type 0 where
   pub small : so_far s < 10 ^ i
-  pub rest : scan_of s (columns (6 - i) line (at + i)) ≡ scan_of Blank (columns 6 line at)
+  pub rest : scan_of s (drop i field) ≡ scan_of Blank field
 
-module _ (line : List ℕ) (at : ℕ) where
-  pub scan_starts : Scanned line at 0 Blank
-  scan_starts = record { within = omega arith; small = omega arith; rest = ap (λ k. scan_of Blank (columns 6 line k)) (add-zero at) }
+module _ (field : List ℕ) where
+  pub scan_starts : Scanned field 0 Blank
+  scan_starts = record { small = omega arith; rest = refl }
 
-  module _ (i : ℕ) (s : Scan) (p : Scanned line at i s) where
+  module _ (i : ℕ) (s : Scan) (p : Scanned field i s) where
     pub still-small : i < 6 → so_far s < 100000
     still-small h = omega (arith, p.small, pow-le-pow_right {n = 10} (omega arith) {i = i} {j = 5} (omega arith))
 
-    pub column-on : (t : Scan) → i < 6 → 6 ≤ length line → at ≤ length line - 6 → t ≡ after_column s (get_or line (at + i) 0) → Scanned line at (i + 1) t
-    unfolding columns
-    column-on t h k l e =
-        let f : 6 - i ≡ suc (6 - (i + 1)) = omega arith in
-        let g : at + (i + 1) ≡ suc (at + i) = omega arith in
-        let d : get_or line (at + i) 0 ≡ get_or line (at + i) 32 = get_or_within line (at + i) 0 32 (omega arith) in
+    pub column-on : (t : Scan) (b : ℕ) → i < length field → b ≡ get_or field i 0 → t ≡ after_column s b → Scanned field (i + 1) t
+    column-on t b h f e =
         let j : i + 1 ≡ suc i = omega arith in
         record {
-          within = omega arith;
-          small = rw (e, j, pow-suc) (omega (arith, p.small, grows s (get_or line (at + i) 0)));
-          rest = rw (g, e, d) (rw f at p.rest);
+          small = rw (e, j, pow-suc) (omega (arith, p.small, grows s b));
+          rest = rw (e, f, j) (rw (drop-cons field i 0 h) at p.rest);
         }
 
-    pub scan-ends : (r : Option ℕ) → 6 ≤ i → r ≡ finish_of s → r ≡ read_field (columns 6 line at)
-    unfolding read_field columns
-    scan-ends r h e =
-        let f : 0 ≡ 6 - i = omega (arith, p.within) in
-        e ∙ ap finish_of (ap (λ k. scan_of s (columns k line (at + i))) f ∙ p.rest)
+    pub scan-ends : length field ≤ i → scan_of Blank field ≡ s
+    scan-ends h = sym (rw (drop_of_length-le field {i = i} h) at p.rest)
+
+-- ---- the columns of a line
+
+pub columns_within : (n : ℕ) (line : List ℕ) (at : ℕ) → at + n ≤ length line → columns n line at ≡ take n (drop at line)
+unfolding columns
+columns_within zero line at h = refl
+columns_within (suc n) line at h = rw (drop-cons line at 32 (omega arith)) (ap (λ l. get_or line at 32 ∷ l) (columns_within n line (suc at) (omega arith)))
+
+-- the first six bytes from place `at` on, all scanned
+pub read_whole : (line : List ℕ) (at : ℕ) (rest field : List ℕ) (s : Scan) (r : Option ℕ) (i : ℕ) →
+    at ≤ length line → rest ≡ slice_range line at (length line) → IsFirstChunk rest field 6 → Scanned field i s → 6 ≤ i → r ≡ finish_of s → r ≡ read_field (columns 6 line at)
+unfolding read_field
+read_whole line at rest field s r i h e k p l f =
+    let room : at + 6 ≤ length line = omega (arith, k.enough, ap length e, length-take (length line - at) (drop at line), length-drop at line) in
+    let g : columns 6 line at ≡ field = rw (columns_within 6 line at room, ← take_all (length line - at) (drop at line) (omega (arith, length-drop at line)), ← e, ← k.same) in
+    rw (g, scan-ends field i s p (omega (arith, ap length k.same, length-take 6 rest, k.enough))) f
 
 -- ---- a field whose last column is blank is bad
 
@@ -112,14 +106,8 @@ blank_last (Sign minus) = refl
 blank_last (Digits minus m) = refl
 blank_last Spoiled = refl
 
-cut_short : (line : List ℕ) (at : ℕ) → length line < at + 6 → None ≡ read_field (columns 6 line at)
+pub cut_short : (line : List ℕ) (at : ℕ) → length line < at + 6 → None ≡ read_field (columns 6 line at)
 unfolding read_field columns
 cut_short line at h =
     let e : get_or line (suc (suc (suc (suc (suc at))))) 32 ≡ 32 = get_or-eq_default line 32 (omega arith) in
     rw e (blank_last (scan_of Blank (columns 5 line at)))
-
-pub short_line : (line : List ℕ) (at : ℕ) → length line < 6 → None ≡ read_field (columns 6 line at)
-short_line line at h = cut_short line at (omega arith)
-
-pub past-line : (line : List ℕ) (at : ℕ) → 6 ≤ length line → length line - 6 < at → None ≡ read_field (columns 6 line at)
-past-line line at h k = cut_short line at (omega arith)

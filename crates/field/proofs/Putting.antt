@@ -1,11 +1,20 @@
 -- The six columns of a field, by how many digits there are.
-use Rattle.std.proofs.Common.{◌≡◌, ℕ, zero, suc, ◌+◌, ◌-◌, ◌*◌, ◌/◌, ◌%◌, ◌^◌, ◌<◌, ◌≤◌, List, [], ◌∷◌, ◌++◌, length, refl, ap, ◌∙◌, arith, le-ltb, lt-ltb}
-use lib.Seq.{sets}
+use Rattle.std.proofs.Common.{◌≡◌, ℕ, zero, suc, ◌+◌, ◌-◌, ◌*◌, ◌/◌, ◌%◌, ◌^◌, ◌<◌, ◌≤◌, List, [], ◌∷◌, ◌++◌, length, refl, sym, ap, ◌∙◌, append_assoc, arith, le-ltb, lt-ltb}
+use lib.Seq.{sets, sets-eq, drop-drop}
+use borrow.Rule.Slice.PartMut.{put_mid}
 use Rattle.units.specs.Decimal.{digit, decimal}
 use Rattle.units.proofs.Digits.{length-decimal, last_one}
 use Rattle.field.specs.Writing.{blanks, field_of}
 use Rattle.field.specs.Putting.{packed, four_bytes, four_of, six_of}
 use Rattle.field.proofs.Digits.{two_digits, three_digits, four_digits, five_digits}
+
+-- ---- six columns of a line
+
+-- what a part of a line holds afterwards stands there in the whole
+pub placed : (line : List ℕ) (at k : ℕ) (part text : List ℕ) → part ≡ text → length text ≡ 6 → k ≡ 6 → at + 6 ≤ length line → put_mid at k line part ≡ sets line at text
+placed line at k part text e f g h =
+    let i : k ≡ length text = omega arith in
+    sym (rw (sets-eq text line at (omega arith), e, i, drop-drop, append_assoc))
 
 -- ---- a word's sign
 

@@ -22,21 +22,21 @@ pub enum Scan {
 // What a field shows of a word: what stands right before the digits, a minus or one more blank, and the number that they say.
 #[derive(Clone, Copy)]
 struct Shown {
-    lead: u32,
+    lead: u8,
     number: u16,
 }
 
 fn split(w: u16) -> Shown
-    ensures { (six_of result.lead result.number ≡ field_of w) × (result.lead < 256) }
+    ensures { six_of result.lead result.number ≡ field_of w }
 {
     if w < 32768 {
         return Shown {
-            lead: 32,
+            lead: b' ',
             number: w,
         };
     }
     Shown {
-        lead: 45,
+        lead: b'-',
         number: 65535 - w + 1,
     }
 }
@@ -45,14 +45,14 @@ fn split(w: u16) -> Shown
 fn digit(n: u16) -> u8
     ensures { result ≡ digit n }
 {
-    48 + (n % 10) as u8
+    b'0' + (n % 10) as u8
 }
 
 // The number whose bytes are the last four digits. One product gives the tens of both pairs: below 100 a tenth is 103 / 1024.
 fn four_digits(n: u16) -> u32
     ensures { result ≡ four_of n }
 {
-    let last = (n % 10000) as u32;
+    let last = u32::from(n % 10000);
     let high = last / 100;
     let low = last % 100;
     let pairs = high + low * 65536;
@@ -63,27 +63,24 @@ fn four_digits(n: u16) -> u32
 }
 
 // The number whose bytes are the last four columns of a number of two or three digits. Of three, the lead takes the place of a zero before them.
-fn few(lead: u32, n: u16) -> u32
-    requires { (lead < 256) × (10 ≤ n) × (n < 1000) }
+fn few(lead: u8, n: u16) -> u32
+    requires { (10 ≤ n) × (n < 1000) }
     ensures { 32 ∷ 32 ∷ four_bytes result ≡ six_of lead n }
 {
     if n < 100 {
-        let m = n as u32;
-        return 0x3030_0020 + lead * 256 + (m / 10 + m % 10 * 256) * 65536;
+        let m = u32::from(n);
+        return 0x3030_0020 + u32::from(lead) * 256 + (m / 10 + m % 10 * 256) * 65536;
     }
-    four_digits(n) - 48 + lead
+    four_digits(n) - 48 + u32::from(lead)
 }
 
-fn put_six(out: &mut [u8], at: usize, a: u8, b: u8, c: u8, d: u8, e: u8, f: u8)
+// Kept: with the part of the line as a parameter, or one copy of a whole field at the end of `write_field`, writing took a third more instructions.
+fn put_six(out: &mut [u8], at: usize, columns: [u8; 6])
     requires { at + 6 ≤ length out.old }
-    ensures { out.new ≡ sets out.old at (a ∷ b ∷ c ∷ d ∷ e ∷ f ∷ []) }
+    ensures { out.new ≡ sets out.old at columns }
 {
-    out[at] = a;
-    out[at + 1] = b;
-    out[at + 2] = c;
-    out[at + 3] = d;
-    out[at + 4] = e;
-    out[at + 5] = f;
+    let end = at + 6;
+    out[at..end].copy_from_slice(&columns);
 }
 
 // The first two columns, and a number whose bytes are the other four. A function of its own, so that the compiler makes one store of the four.
@@ -91,20 +88,17 @@ fn put_columns(out: &mut [u8], at: usize, a: u8, b: u8, x: u32)
     requires { at + 6 ≤ length out.old }
     ensures { out.new ≡ sets out.old at (a ∷ b ∷ four_bytes x) }
 {
-    let c = (x % 256) as u8;
-    let d = (x / 256 % 256) as u8;
-    let e = (x / 65536 % 256) as u8;
-    let f = (x / 16777216) as u8;
-    put_six(out, at, a, b, c, d, e, f);
+    let [c, d, e, f] = x.to_le_bytes();
+    put_six(out, at, [a, b, c, d, e, f]);
 }
 
 // The field of a number below 1000, `lead` right before its digits.
-fn put_few(out: &mut [u8], at: usize, lead: u32, n: u16)
-    requires { (at + 6 ≤ length out.old) × (lead < 256) × (n < 1000) }
+fn put_few(out: &mut [u8], at: usize, lead: u8, n: u16)
+    requires { (at + 6 ≤ length out.old) × (n < 1000) }
     ensures { out.new ≡ sets out.old at (six_of lead n) }
 {
     if n < 10 {
-        put_six(out, at, 32, 32, 32, 32, lead as u8, digit(n));
+        put_six(out, at, [32, 32, 32, 32, lead, digit(n)]);
         return;
     }
     put_columns(out, at, 32, 32, few(lead, n));
@@ -124,23 +118,23 @@ pub fn write_field(out: &mut [u8], at: Bytes, w: u16)
         return;
     }
     if n < 10000 {
-        put_columns(out, first, 32, lead as u8, four_digits(n));
+        put_columns(out, first, 32, lead, four_digits(n));
         return;
     }
-    put_columns(out, first, lead as u8, digit(n / 10000), four_digits(n));
+    put_columns(out, first, lead, digit(n / 10000), four_digits(n));
 }
 
 // A digit after the value m: what is below the digits wraps to far above them, so that one test is enough.
+// Kept: `is_ascii_digit` and `b - b'0'` were tried, and reading took a tenth more instructions.
 fn with_digit(minus: bool, m: u32, b: u8) -> Scan
     requires { m < 100000 }
     ensures { result ≡ with_digit minus m b }
 {
-    let d = std::num::wrapping_sub_u32(b as u32, 48);
+    let d = u32::from(b).wrapping_sub(48);
     if 9 < d {
         return Scan::Spoiled;
     }
-    let value = m * 10 + d;
-    Scan::Digits(minus, value)
+    Scan::Digits(minus, m * 10 + d)
 }
 
 // One column more.
@@ -149,18 +143,12 @@ fn after_column(s: Scan, b: u8) -> Scan
     ensures { result ≡ after_column s b }
 {
     match s {
-        Scan::Blank => {
-            if b == 32 {
-                return Scan::Blank;
-            }
-            if b == 45 {
-                return Scan::Sign(true);
-            }
-            if b == 43 {
-                return Scan::Sign(false);
-            }
-            with_digit(false, 0, b)
-        }
+        Scan::Blank => match b {
+            b' ' => Scan::Blank,
+            b'-' => Scan::Sign(true),
+            b'+' => Scan::Sign(false),
+            _ => with_digit(false, 0, b),
+        },
         Scan::Sign(minus) => with_digit(minus, 0, b),
         Scan::Digits(minus, m) => with_digit(minus, m, b),
         Scan::Spoiled => Scan::Spoiled,
@@ -175,7 +163,7 @@ fn signed(minus: bool, m: u32) -> Option<u16>
         if 32768 < m {
             return None;
         }
-        return Some(((65536 - m) % 65536) as u16);
+        return Some((m as u16).wrapping_neg());
     }
     if 32767 < m {
         return None;
@@ -195,28 +183,14 @@ fn finish(s: Scan) -> Option<u16>
     }
 }
 
-// Where the line ends before the sixth column, that column is blank. Apart from `read_field`: in one function with it the loop takes more instructions.
-fn scan_field(line: &[u8], at: usize) -> Option<u16>
-    ensures { result ≡ read_field (columns 6 line.now at) }
-{
-    if line.len() < 6 {
-        return None;
-    }
-    if line.len() - 6 < at {
-        return None;
-    }
-    let mut s = Scan::Blank;
-    let mut i: usize = 0;
-    while i < 6 {
-        s = after_column(s, line[at + i]);
-        i += 1;
-    }
-    finish(s)
-}
-
-// Reads the six columns from place `at` on of a line; columns that it lacks are blank. A bad field has no word.
+// Reads the six columns from place `at` on of a line; columns that it lacks are blank. A bad field has no word, as one has none whose last column is blank.
 pub fn read_field(line: &[u8], at: Bytes) -> Option<u16>
     ensures { result ≡ read_field (columns 6 line.now at.0) }
 {
-    scan_field(line, at.0)
+    let field = line.get(at.0..)?.first_chunk::<6>()?;
+    let mut s = Scan::Blank;
+    for b in field {
+        s = after_column(s, *b);
+    }
+    finish(s)
 }

@@ -1,21 +1,6 @@
-use Rattle.std.proofs.Common.{arith, length-set}
-use native.Mathlib.Numerals.{towards_suc}
+use Rattle.std.proofs.Common.{arith}
+use Rattle.field.proofs.Putting.{placed}
 use Rattle.field.proofs.put_six.Goals as goal
 
-pub bounds-out-at-2 : goal.bounds-out-at-2
-bounds-out-at-2 c = simp length-set (omega arith)
-
-pub bounds-out-at-3 : goal.bounds-out-at-3
-bounds-out-at-3 c = simp length-set (omega arith)
-
-pub bounds-out-at-4 : goal.bounds-out-at-4
-bounds-out-at-4 c = simp length-set (omega arith)
-
-pub bounds-out-at-5 : goal.bounds-out-at-5
-bounds-out-at-5 c = simp length-set (omega arith)
-
-pub bounds-out-at-6 : goal.bounds-out-at-6
-bounds-out-at-6 c = simp length-set (omega arith)
-
 pub returns : goal.returns
-returns c = simp towards_suc
+returns c = let a = c.args in placed a.out.now a.at _ _ _ c.copy_from_slice.ensures.after (omega arith) (omega arith) c.requires
