@@ -2,12 +2,14 @@
 #![tactic(auto)]
 
 ghost use Rattle.std.specs.Prelude.{◌≡◌, ◌<◌, ◌≤◌, length};
+ghost use Rattle.std.proofs.Common.{arith};
 ghost use Rattle.words.specs.Words.{words_of, word};
 ghost use Rattle.block_slice.specs.Blocks.{wrong_first, judge_stated, judge_next};
 ghost use Rattle.block_slice.specs.Cases.{slice_refusal_of, measured_of};
+ghost use Rattle.block_slice.specs.declared.SliceRefusal.TheVariants.{Block};
 
-use block::{Judged, Refusal};
-use units::{Answer, Bytes, Words};
+use block::Refusal;
+use units::{Answer, Bytes, Numbered, Words};
 
 // Why a slice of blocks is refused: it is too long, block n runs past it, or a block's own refusal.
 #[derive(Clone, Copy)]
@@ -17,11 +19,28 @@ pub enum SliceRefusal {
     Block(Refusal),
 }
 
-// What is found of blocks that are judged: a count of bytes, or the slice's refusal.
-#[derive(Clone, Copy)]
-pub enum Measured {
-    Size(Bytes),
-    Wrong(SliceRefusal),
+impl From<Refusal> for SliceRefusal {
+    ghost from_gives = { λ r s. s ≡ Block r };
+
+    fn from(r: Refusal) -> SliceRefusal {
+        SliceRefusal::Block(r)
+    }
+}
+
+impl Numbered for SliceRefusal {
+    ghost numbers_of = { slice_refusal_of };
+
+    ghost room = { 65536 };
+
+    ghost packs = { Prim.omega arith };
+
+    fn numbers(self) -> Answer {
+        match self {
+            SliceRefusal::Long => units::row(52, 0, 0, 0),
+            SliceRefusal::Cut(number) => units::row(51, number, 0, 0),
+            SliceRefusal::Block(own) => own.numbers(),
+        }
+    }
 }
 
 // The words that the next block says it has, the first of what is left of a slice.
@@ -36,51 +55,35 @@ pub fn stated_words(rest: &[u8]) -> Words
 fn wrong_first(stated: Words) -> bool
     ensures { result ≡ wrong_first stated.0 }
 {
-    let first = stated.0;
-    if first < 18 {
-        return true;
-    }
-    8000 < first
+    !(18..=8000).contains(&stated.0)
 }
 
 // Judges block `number` by the words that it states.
-fn judge_stated(rest: &[u8], number: u16, stated: Words) -> Measured
+#[tactic(auto, unfolding(crate::specs::Blocks::judge_stated))]
+fn judge_stated(rest: &[u8], number: u16, stated: Words) -> Result<Bytes, SliceRefusal>
     requires { stated.0 < 65536 }
     ensures { measured_of result ≡ judge_stated number stated.0 rest.now }
 {
     let size = units::bytes_of_words(stated);
-    let end = size.0;
-    if rest.len() < end {
-        return Measured::Wrong(SliceRefusal::Cut(number));
+    if rest.len() < size.0 {
+        return Err(SliceRefusal::Cut(number));
     }
-    match block::judge(&rest[..end]) {
-        Judged::Refused(r) => Measured::Wrong(SliceRefusal::Block(r)),
-        Judged::Records(_) => Measured::Size(size),
-    }
+    block::judge(&rest[..size.0])?;
+    Ok(size)
 }
 
 // Judges block `number`, the next of what is left of a slice.
-pub fn judge_next(rest: &[u8], number: u16) -> Measured
+#[tactic(auto, unfolding(crate::specs::Blocks::judge_next))]
+pub fn judge_next(rest: &[u8], number: u16) -> Result<Bytes, SliceRefusal>
     requires { 0 < length rest.now }
     ensures { measured_of result ≡ judge_next number rest.now }
 {
     if rest.len() == 1 {
-        return Measured::Wrong(SliceRefusal::Cut(number));
+        return Err(SliceRefusal::Cut(number));
     }
     let stated = stated_words(rest);
     if wrong_first(stated) {
-        return Measured::Wrong(SliceRefusal::Block(Refusal::Size));
+        return Err(SliceRefusal::Block(Refusal::Size));
     }
     judge_stated(rest, number, stated)
-}
-
-// The four numbers of a slice's refusal.
-pub fn refusal_numbers(r: SliceRefusal) -> Answer
-    ensures { (result ≡ slice_refusal_of r) × (result.a < 65536) }
-{
-    match r {
-        SliceRefusal::Long => units::row(52, 0, 0, 0),
-        SliceRefusal::Cut(number) => units::row(51, number, 0, 0),
-        SliceRefusal::Block(own) => block::refusal_numbers(own),
-    }
 }

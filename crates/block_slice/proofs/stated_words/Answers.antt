@@ -1,10 +1,6 @@
 use native.Mathlib.Omega.{arith}
-use mathlib.Core.Path.{◌∙◌}
 use Rattle.words.proofs.Laws.{length_words_of}
 use Rattle.block_slice.proofs.stated_words.Goals as goal
 
 pub word_at-requires : goal.word_at-requires
 word_at-requires c = omega (arith, length_words_of c.args.rest.now, c.requires)
-
-pub returns : goal.returns
-returns c = (c.words_said.ensures.0 ∙ c.word_at.ensures, c.words_said.ensures.1)
