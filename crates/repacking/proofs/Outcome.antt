@@ -4,15 +4,19 @@ use mathlib.Core.List.{List, [], ◌∷◌, flatten}
 use Prim.Native.Nat.{ℕ, ◌≤◌, ◌<◌}
 use native.Mathlib.Omega.{arith}
 use borrow.Author.Tests.{lt-ltb, le-ltb}
-use lib.ListN.{length}
+use lib.ListN.{length, get_or}
 use lib.Seq.{sets}
+use Rattle.std.proofs.Common.{Result, Fits, w8}
 use Rattle.units.specs.declared.Answer.{Answer}
+use Rattle.units.specs.declared.Bytes.{Bytes}
+use Rattle.units.specs.declared.Unwritten.{Unwritten}
+use Rattle.words.proofs.Laws.{all_below}
 use Rattle.units.specs.Answers.{answer, Verdict, passed, refused, onward}
 use Rattle.units.proofs.Verdicts.{never_passed}
-use Rattle.words.specs.Words.{joined, Below}
+use Rattle.words.specs.Words.{joined}
 use Rattle.words.specs.Outcomes.{Written, written, leaves}
 use Rattle.words.proofs.Writing.{too_short, all-written}
-use Rattle.repacking.specs.declared.Repacked.{Repacked}
+use Rattle.block_slice.specs.declared.SliceRefusal.{SliceRefusal}
 use Rattle.block_slice.specs.Blocks.{most_bytes, walk_blocks, blocks_in, records_in}
 use Rattle.packing.specs.Packing.{groups, repacked}
 use Rattle.repacking.specs.Repacking.{repack}
@@ -93,5 +97,5 @@ module _ (slice out : List ℕ) where
         by (refused s) f = let same : r ≡ s = cc in ap (λ a. leaves a out) same
 
 -- an outcome that is the definition's keeps the promise
-pub promised : (slice out : List ℕ) → Below 256 slice → {r : Repacked} {after : List ℕ} → leaves (repacked_of r) after ≡ repack slice out → Repacks slice out r after
-promised slice out h e = record { outcome = e; packs = rw (ap (λ w. w.answer) e) (repack_told slice out h).1 }
+pub promised : {slice out : List ℕ} → ((i : ℕ) → Fits w8 (get_or slice i 0)) → {r : Result Bytes (Unwritten SliceRefusal)} {after : List ℕ} → leaves (repacked_of r) after ≡ repack slice out → Repacks slice out r after
+promised {slice} {out} h e = record { outcome = e; packs = rw (ap (λ w. w.answer) e) (repack_told slice out (all_below 256 slice (λ i. omega (arith, h i)))).1 }

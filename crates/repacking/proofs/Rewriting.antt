@@ -1,10 +1,10 @@
 -- A loop that writes the blocks of an accepted slice again: what it keeps, and what a turn of it knows.
 use mathlib.Core.Path.{◌≡◌, refl, sym, ap, ◌∙◌}
-use mathlib.Core.List.{List, [], ◌∷◌, ◌++◌, flatten, append-nil}
-use Prim.Native.Nat.{ℕ, ◌+◌, ◌≤◌, ◌<◌}
+use mathlib.Core.List.{List, [], ◌∷◌, flatten, append-nil}
+use Prim.Native.Nat.{ℕ, ◌≤◌, ◌<◌}
 use native.Mathlib.Omega.{arith}
-use lib.ListN.{length, take, drop, length-append, length-drop}
-use lib.Seq.{sets, take_at, drop_at, drop-drop, slice_empty}
+use lib.ListN.{length, take, drop, length-append}
+use lib.Seq.{sets, take_at, drop_at, slice_empty}
 use Rattle.units.specs.Units.{bytes_of_words}
 use Rattle.units.specs.Answers.{passed}
 use Rattle.words.specs.Words.{words_of, word, joined, All, Below}
@@ -22,13 +22,13 @@ use Rattle.packing.proofs.Filling.{repacked_ends}
 use Rattle.repacking.proofs.Writing.{onto_nothing}
 use Rattle.repacking.proofs.Putting.{Putting, putting_start, first_fits, first-put}
 
--- it has come so far: the blocks that are left at this place, whose records are still to be put
-pub record Rewriting (slice out₀ out : List ℕ) (at : ℕ) (p : Current) : Type 0 where
+-- it has come so far: the blocks that are left, whose records are still to be put
+pub record Rewriting (slice out₀ out left : List ℕ) (p : Current) : Type 0 where
   pub all : List (List ℕ)
   pub found : walk_blocks 0 1 slice ≡ passed all
   pub some : 1 ≤ length (records_in all)
   pub rest : List (List ℕ)
-  pub stand : drop at slice ≡ joined rest
+  pub stand : left ≡ joined rest
   pub each : All Accepted rest
   pub going : Putting out₀ (current_at 0 0) (records_in all) out p (records_in rest)
 
@@ -38,7 +38,7 @@ unfolding joined flatten
 some_record [] h s = absurd (omega arith)
 some_record (b ∷ bs) h s = omega (arith, h.0.some, length-append (records_of b) (records_in bs))
 
-pub rewriting_start : (slice out : List ℕ) → Below 256 slice → Packable slice out → Rewriting slice out out 0 (current_at 0 0)
+pub rewriting_start : (slice out : List ℕ) → Below 256 slice → Packable slice out → Rewriting slice out out slice (current_at 0 0)
 rewriting_start slice out bytes pack =
     let bs = pack.blocks in
     let cut = slice_cut 1 slice bs pack.found in
@@ -60,29 +60,28 @@ rewriting_start slice out bytes pack =
     }
 
 -- the next block: the bytes that its first word states
-pub record NextBlock {slice out₀ out : List ℕ} {at : ℕ} {p : Current} (w : Rewriting slice out₀ out at p) (lent : List ℕ) (size : ℕ) : Type 0 where
+pub record NextBlock {slice out₀ out left : List ℕ} {p : Current} (w : Rewriting slice out₀ out left p) (size : ℕ) : Type 0 where
   pub least : 36 ≤ size
-  pub room : size ≤ length lent
-  pub good : Accepted (take size lent)
-  pub fits : Fitting out p (records_of (take size lent))
-  pub on : {after : List ℕ} {next : Current} → PutOn out p (records_of (take size lent)) after next → Rewriting slice out₀ after (at + size) next
+  pub room : size ≤ length left
+  pub good : Accepted (take size left)
+  pub fits : Fitting out p (records_of (take size left))
+  pub on : {after : List ℕ} {next : Current} → PutOn out p (records_of (take size left)) after next → Rewriting slice out₀ after (drop size left) next
 
-module _ {slice out₀ out : List ℕ} {at : ℕ} {p : Current} (w : Rewriting slice out₀ out at p) where
-  pub next_block : {lent : List ℕ} {size : ℕ} → lent ≡ drop at slice → at < length slice → size ≡ bytes_of_words (word (words_of lent) 1) → NextBlock w lent size
+module _ {slice out₀ out left : List ℕ} {p : Current} (w : Rewriting slice out₀ out left p) where
+  pub next_block : {stated size : ℕ} → 0 < length left → stated ≡ word (words_of left) 1 → size ≡ bytes_of_words stated → NextBlock w size
   unfolding joined flatten
-  next_block {lent} {size} is here says = by w.rest w.stand w.each w.going
+  next_block {stated} {size} some first bytes = by w.rest w.stand w.each w.going
     where
-      by : (bs : List (List ℕ)) → drop at slice ≡ joined bs → All Accepted bs → Putting out₀ (current_at 0 0) (records_in w.all) out p (records_in bs) → NextBlock w lent size
-      by [] stand each going = absurd (omega (arith, ap length stand, length-drop at slice))
+      by : (bs : List (List ℕ)) → left ≡ joined bs → All Accepted bs → Putting out₀ (current_at 0 0) (records_in w.all) out p (records_in bs) → NextBlock w size
+      by [] stand each going = absurd (omega (arith, ap length stand))
       by (b ∷ bs) stand each going =
           let s = accepted_stated b each.0 in
-          let first : lent ≡ b ++ joined bs = is ∙ stand in
           let size_is : size ≡ length b =
-          says ∙ ap (λ l. bytes_of_words (word (words_of l) 1)) first ∙ ap bytes_of_words (same_first b (joined bs) (omega (arith, s.least))) ∙ s.says in
-          let part : take size lent ≡ b = ap (take size) first ∙ take_at b (joined bs) size (sym size_is) in
+          bytes ∙ ap bytes_of_words first ∙ ap (λ l. bytes_of_words (word (words_of l) 1)) stand ∙ ap bytes_of_words (same_first b (joined bs) (omega (arith, s.least))) ∙ s.says in
+          let part : take size left ≡ b = ap (take size) stand ∙ take_at b (joined bs) size (sym size_is) in
           record {
             least = omega (arith, s.least);
-            room = omega (arith, ap length first, length-append b (joined bs));
+            room = omega (arith, ap length stand, length-append b (joined bs));
             good = rw part each.0;
             fits = rw part (first_fits going (records_of b) (records_in bs) refl);
             on = λ put.
@@ -91,38 +90,33 @@ module _ {slice out₀ out : List ℕ} {at : ℕ} {p : Current} (w : Rewriting s
                   found = w.found;
                   some = w.some;
                   rest = bs;
-                  stand = sym (drop-drop size at slice) ∙ ap (drop size) stand ∙ drop_at b (joined bs) size (sym size_is);
+                  stand = ap (drop size) stand ∙ drop_at b (joined bs) size (sym size_is);
                   each = each.1;
                   going = first-put going (records_of b) (records_in bs) refl (rw part at put);
                 };
           }
 
-  -- behind it the slice goes on, or ends
-  pub block_within : {lent : List ℕ} {size : ℕ} → lent ≡ drop at slice → at < length slice → NextBlock w lent size → at + size ≤ length slice
-  block_within lent here n = omega (arith, n.room, ap length lent, length-drop at slice)
-
   -- which is there
-  pub room_left : at < length slice → 36 ≤ length (drop at slice)
+  pub room_left : 0 < length left → 36 ≤ length left
   unfolding joined
-  room_left here = by w.rest w.stand w.each
+  room_left some = by w.rest w.stand w.each
     where
-      by : (bs : List (List ℕ)) → drop at slice ≡ joined bs → All Accepted bs → 36 ≤ length (drop at slice)
-      by [] stand each = absurd (omega (arith, ap length stand, length-drop at slice))
+      by : (bs : List (List ℕ)) → left ≡ joined bs → All Accepted bs → 36 ≤ length left
+      by [] stand each = absurd (omega (arith, ap length stand))
       by (b ∷ bs) stand each = omega (arith, ap length stand, (accepted_stated b each.0).least, length-append b (joined bs))
 
   -- at the end no block is left
-  none_left : length slice ≤ at → Putting out₀ (current_at 0 0) (records_in w.all) out p []
+  none_left : length left ≡ 0 → Putting out₀ (current_at 0 0) (records_in w.all) out p []
   unfolding joined flatten
-  none_left h = by w.rest w.stand w.each w.going
+  none_left none = by w.rest w.stand w.each w.going
     where
-      by : (bs : List (List ℕ)) → drop at slice ≡ joined bs → All Accepted bs → Putting out₀ (current_at 0 0) (records_in w.all) out p (records_in bs) → Putting out₀ (current_at 0 0) (records_in w.all) out p []
+      by : (bs : List (List ℕ)) → left ≡ joined bs → All Accepted bs → Putting out₀ (current_at 0 0) (records_in w.all) out p (records_in bs) → Putting out₀ (current_at 0 0) (records_in w.all) out p []
       by [] stand each going = going
-      by (b ∷ bs) stand each going =
-          absurd (omega (arith, (accepted_stated b each.0).least, ap length stand, length-append b (joined bs), length-drop at slice))
+      by (b ∷ bs) stand each going = absurd (omega (arith, (accepted_stated b each.0).least, ap length stand, length-append b (joined bs)))
 
   -- the last block can be sealed
-  pub last_fits : length slice ≤ at → Fitting out p []
-  last_fits h = (none_left h).fits
+  pub last_fits : length left ≡ 0 → Fitting out p []
+  last_fits none = (none_left none).fits
 
 -- all records packed from the start of the output on
 from_start : (out : List ℕ) (rs : List (List ℕ)) → 1 ≤ length rs → finished out (current_at 0 0) rs ≡ sets out 0 (repacked rs)
@@ -133,8 +127,8 @@ from_start out (r ∷ rs) some =
     rw none (ap (sets out 0) (onto_nothing (packed 0 (r ∷ rs)) (some_packed 0 (r ∷ rs))))
 
 -- and then all is written
-pub rewritten : {slice out₀ out : List ℕ} {at : ℕ} {p : Current} (w : Rewriting slice out₀ out at p) → length slice ≤ at → {after : List ℕ} → after ≡ finished out p []
+pub rewritten : {slice out₀ out left : List ℕ} {p : Current} (w : Rewriting slice out₀ out left p) → length left ≡ 0 → {after : List ℕ} → after ≡ finished out p []
     → (bs : List (List ℕ)) → walk_blocks 0 1 slice ≡ passed bs → after ≡ sets out₀ 0 (repacked (records_in bs))
-rewritten {slice} {out₀} {out} {at} {p} w h last bs e =
+rewritten {slice} {out₀} {out} {left} {p} w none last bs e =
     let same : w.all ≡ bs = cc w.found in
-    rw (← same) (last ∙ (none_left w h).same [] ∙ ap (finished out₀ (current_at 0 0)) (append-nil (records_in w.all)) ∙ from_start out₀ (records_in w.all) w.some)
+    rw (← same) (last ∙ (none_left w none).same [] ∙ ap (finished out₀ (current_at 0 0)) (append-nil (records_in w.all)) ∙ from_start out₀ (records_in w.all) w.some)

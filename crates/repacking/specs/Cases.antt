@@ -1,17 +1,16 @@
 -- The papers' numbers for each case of what becomes of a slice of blocks.
-use Rattle.std.specs.Prelude.{ℕ, ◌≡◌, ◌⊎◌}
+use Rattle.std.specs.Prelude.{ℕ, ◌≡◌, ◌⊎◌, Result}
+use Rattle.units.specs.declared.Bytes.{Bytes}
 use Rattle.units.specs.declared.Answer.{Answer}
-use Rattle.units.specs.Answers.{answer}
+use Rattle.units.specs.declared.Unwritten.{Unwritten}
+use Rattle.units.specs.Answers.{written_of}
 use Rattle.block_slice.specs.Cases.{SliceRow, slice_refusal_of}
-use Rattle.repacking.specs.declared.Repacked.{Repacked}
-use Rattle.repacking.specs.declared.Repacked.TheVariants.{Blocks, Refused, Short}
+use Rattle.block_slice.specs.declared.SliceRefusal.{SliceRefusal}
 
 -- the slice's rows, and "50 output too short, last of all"
 abbrev pub RepackRow : ℕ → Type 0
 RepackRow n = SliceRow n ⊎ (n ≡ 50)
 
 -- the bytes written; the slice's refusal; row 50 with the bytes needed
-abbrev pub repacked_of : Repacked → Answer
-repacked_of (Blocks size) = answer 0 size.0 0 0
-repacked_of (Refused r) = slice_refusal_of r
-repacked_of (Short size) = answer 50 size.0 0 0
+abbrev pub repacked_of : Result Bytes (Unwritten SliceRefusal) → Answer
+repacked_of = written_of 50 slice_refusal_of

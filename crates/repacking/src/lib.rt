@@ -7,70 +7,50 @@ ghost use Rattle.words.specs.Words.{words_of, bytes_of, most_record_words, block
 ghost use Rattle.block.specs.Judging.{Accepted};
 ghost use Rattle.block.specs.Records.{records_of};
 ghost use Rattle.block.specs.Rules.{BlockRecord};
-ghost use Rattle.units.specs.Answers.{passed, fitted};
-ghost use Rattle.words.specs.Outcomes.{leaves, written};
+ghost use Rattle.units.specs.Answers.{fitted};
 ghost use Rattle.block_slice.specs.Blocks.{most_bytes};
 ghost use Rattle.block_slice.specs.Cases.{measured_of};
 ghost use Rattle.packing.specs.Current.{count_limit, sealed_bytes, current_after};
 ghost use Rattle.repacking.specs.Promises.{Repacks};
-ghost use Rattle.repacking.specs.Between.{standing, packed_again, bytes_needed, Countable, Fitting, RoomMade, PutOn, Packable, PackedInto};
+ghost use Rattle.repacking.specs.Between.{standing, bytes_needed, Countable, Fitting, RoomMade, PutOn, Packable, PackedInto};
 ghost use Rattle.repacking.specs.Cases.{repacked_of};
 
-use block_slice::{Measured, SliceRefusal};
+use block_slice::SliceRefusal;
 use packing::Current;
-use units::{Answer, Bytes, Words};
+use units::{Answer, Bytes, Unwritten, Words};
 
 // The most bytes of blocks that are repacked at a time.
 const MOST_BYTES: usize = 64000;
-
-// What becomes of a slice of blocks: the bytes of its blocks packed again, its refusal, or an output that is too short for the bytes needed.
-#[derive(Clone, Copy)]
-pub enum Repacked {
-    Blocks(Bytes),
-    Refused(SliceRefusal),
-    Short(Bytes),
-}
 
 // The current block once the records of an accepted block are packed.
 fn count_records(block: &[u8], current: Current) -> Current
     requires { Accepted block.now × Countable current (records_of block.now) }
     ensures { result ≡ current_after current (records_of block.now) }
 {
-    let mut at = 1;
     let mut to = current;
-    loop {
-        let whole = block_steps::record_at(block, Words(at));
-        let n = words::count(whole).0;
-        if n == 0 {
-            return to;
-        }
-        to = to.room_for(Words(n)).with_record(Words(n));
-        at += n;
+    for whole in block_steps::records(block) {
+        let k = words::count(whole);
+        to = to.room_for(k).with_record(k);
     }
+    to
 }
 
 // Judges the blocks of a slice, and counts the bytes of their records packed again.
-fn judge_blocks(slice: &[u8]) -> Measured
+fn judge_blocks(slice: &[u8]) -> Result<Bytes, SliceRefusal>
     requires { length slice.now ≤ most_bytes }
     ensures { measured_of result ≡ bytes_needed slice.now }
 {
-    let end = slice.len();
-    let mut at = 0;
+    let mut rest = slice;
     let mut number: u16 = 1;
     let mut current = Current::FIRST;
-    while at < end {
-        let rest = &slice[at..];
-        match block_slice::judge_next(rest, number) {
-            Measured::Wrong(r) => return Measured::Wrong(r),
-            Measured::Size(size) => {
-                let k = size.0;
-                current = count_records(&rest[..k], current);
-                at += k;
-                number += 1;
-            }
-        }
+    while !rest.is_empty() {
+        let size = block_slice::judge_next(rest, number)?;
+        let (block, others) = rest.split_at(size.0);
+        current = count_records(block, current);
+        rest = others;
+        number += 1;
     }
-    Measured::Size(current.bytes_to())
+    Ok(current.bytes_to())
 }
 
 // Seals the current block where it stands in the output.
@@ -117,17 +97,11 @@ fn put_records(block: &[u8], out: &mut [u8], current: Current) -> Current
     requires { Accepted block.now × Fitting out.old current (records_of block.now) }
     ensures { PutOn out.old current (records_of block.now) out.new result }
 {
-    let mut at = 1;
     let mut to = current;
-    loop {
-        let whole = block_steps::record_at(block, Words(at));
-        let n = words::count(whole).0;
-        if n == 0 {
-            return to;
-        }
+    for whole in block_steps::records(block) {
         to = put_record(whole, out, to);
-        at += n;
     }
+    to
 }
 
 // Writes the blocks of an accepted slice again, packed.
@@ -135,55 +109,39 @@ fn write_blocks(slice: &[u8], out: &mut [u8])
     requires { Packable slice.now out.old }
     ensures { PackedInto slice.now out.old out.new }
 {
-    let total = slice.len();
-    let mut at = 0;
+    let mut rest = slice;
     let mut current = Current::FIRST;
-    while at < total {
-        let rest = &slice[at..];
-        let size = units::bytes_of_words(block_slice::stated_words(rest)).0;
-        current = put_records(&rest[..size], out, current);
-        at += size;
+    while !rest.is_empty() {
+        let size = units::bytes_of_words(block_slice::stated_words(rest));
+        let (block, behind) = rest.split_at(size.0);
+        current = put_records(block, out, current);
+        rest = behind;
     }
     seal_current(out, current);
 }
 
-// Writes the blocks of an accepted slice again, if the output has room for the bytes needed.
-fn write_packed(slice: &[u8], out: &mut [u8], needed: Bytes) -> Repacked
-    requires { (passed needed.0 ≡ bytes_needed slice.now) × (length slice.now ≤ most_bytes) }
-    ensures { leaves (repacked_of result) out.new ≡ written 50 out.old (packed_again slice.now) }
-{
-    let bytes = needed.0;
-    if out.len() < bytes {
-        return Repacked::Short(needed);
-    }
-    // No record, so no block to seal.
-    if bytes == 0 {
-        return Repacked::Blocks(needed);
-    }
-    write_blocks(slice, out);
-    Repacked::Blocks(needed)
-}
-
 // Packs blocks that stand one after the other again: a record goes into the current block if it fits, else into a new one.
-pub fn repack(slice: &[u8], out: &mut [u8]) -> Repacked
+pub fn repack(slice: &[u8], out: &mut [u8]) -> Result<Bytes, Unwritten<SliceRefusal>>
     ensures { Repacks slice.now out.old result out.new }
 {
     if MOST_BYTES < slice.len() {
-        return Repacked::Refused(SliceRefusal::Long);
+        return Err(Unwritten::Refused(SliceRefusal::Long));
     }
-    match judge_blocks(slice) {
-        Measured::Wrong(r) => Repacked::Refused(r),
-        Measured::Size(needed) => write_packed(slice, out, needed),
+    let needed = judge_blocks(slice)?;
+    if out.len() < needed.0 {
+        return Err(Unwritten::Short(needed));
     }
+    // No record, so no block to seal.
+    if needed.0 == 0 {
+        return Ok(needed);
+    }
+    write_blocks(slice, out);
+    Ok(needed)
 }
 
 // The four numbers of an answer.
-pub fn numbers(r: Repacked) -> Answer
+pub fn numbers(r: Result<Bytes, Unwritten<SliceRefusal>>) -> Answer
     ensures { (result ≡ fitted (repacked_of r)) × (result.a < 2 ^ 24) }
 {
-    match r {
-        Repacked::Blocks(size) => units::sized(0, size),
-        Repacked::Refused(why) => block_slice::refusal_numbers(why),
-        Repacked::Short(size) => units::sized(50, size),
-    }
+    units::written(50, r)
 }

@@ -1,51 +1,42 @@
-use mathlib.Core.Path.{sym, ap}
-use Prim.Native.Nat.{◌+◌}
+use mathlib.Core.Path.{sym, ap, ◌∙◌}
 use native.Mathlib.Omega.{arith}
-use lib.ListN.{length, length-drop}
-use lib.Seq.{length-take-le}
+use Rattle.std.proofs.Common.{rules}
+use Rattle.std.proofs.lemmas.Result.{err_from_is_err_and}
 use Rattle.words.proofs.Laws.{all_below}
 use Rattle.block_slice.specs.Cases.{measured_of}
-use Rattle.repacking.proofs.Judging.{Judging, rest_is, rest_bytes, judging_start, all-judged, judged-stop, first, countable, judged-on}
+use Rattle.repacking.proofs.Judging.{judging_start, all-judged, judged-stop, first, countable, judged-on}
 use Rattle.repacking.proofs.judge_blocks.Goals as goal
 
-again : (c : goal.After-count_records-current) → Judging c.args.slice.now (c.loop-at.at + c.in-Size.size.0) (c.loop-at.number + 1) c.count_records-current.result
-again c = let b = c.args.slice.now in let at = c.loop-at.at in
-    judged-on c.loop-at.invariant (rest_is b at) c.loop-at-test.true c.judge_next.ensures (ap measured_of c.in-Size.is) (rest_bytes b at (all_below 256 b (λ i. omega (arith, c.type_inv.slice i)))) c.requires c.count_records-current.ensures
+pub loop-rest-init : goal.loop-rest-init
+loop-rest-init c = let b = c.args.slice.now in judging_start b (all_below 256 b (λ i. omega (arith, c.type_inv.slice i)))
 
-pub loop-at-init : goal.loop-at-init
-loop-at-init c = judging_start c.args.slice.now
+pub returns-in_err-size : goal.returns-in_err-size
+returns-in_err-size c =
+    let p = err_from_is_err_and c.from_residual.result c.from_residual.ensures.1 in
+    rw (p.1, p.2) (judged-stop c.loop-rest.invariant (search rules) (sym c.judge_next.ensures ∙ ap measured_of c.in_err-size.was))
 
-pub judge_next-requires : goal.judge_next-requires
-judge_next-requires c = omega (arith, ap length (rest_is c.args.slice.now c.loop-at.at), length-drop c.loop-at.at c.args.slice.now, c.loop-at-test.true)
-
-pub returns-in-Wrong : goal.returns-in-Wrong
-returns-in-Wrong c = judged-stop c.loop-at.invariant (rest_is c.args.slice.now c.loop-at.at) c.loop-at-test.true c.judge_next.ensures (ap measured_of c.in-Wrong.is)
-
-pub slice_bounds-count_records-end : goal.slice_bounds-count_records-end
-slice_bounds-count_records-end c =
-    sym (length-take-le _ _ (first c.loop-at.invariant (rest_is c.args.slice.now c.loop-at.at) c.loop-at-test.true c.judge_next.ensures (ap measured_of c.in-Size.is)).room)
+pub split_at-requires : goal.split_at-requires
+split_at-requires c = (first c.loop-rest.invariant (search rules) (sym c.judge_next.ensures ∙ ap measured_of c.in_ok-size.was)).room
 
 pub count_records-current-requires : goal.count_records-current-requires
-count_records-current-requires c = let b = c.args.slice.now in let at = c.loop-at.at in (
-  (first c.loop-at.invariant (rest_is b at) c.loop-at-test.true c.judge_next.ensures (ap measured_of c.in-Size.is)).good,
-  countable c.loop-at.invariant (rest_is b at) c.loop-at-test.true c.judge_next.ensures (ap measured_of c.in-Size.is) (rest_bytes b at (all_below 256 b (λ i. omega (arith, c.type_inv.slice i)))) c.requires,
-)
-
-pub overflow_add-at : goal.overflow_add-at
-overflow_add-at c = omega (arith, (again c).within, c.requires)
+count_records-current-requires c =
+    let is = sym c.judge_next.ensures ∙ ap measured_of c.in_ok-size.was in
+    rw c.split_at.ensures.front ((first c.loop-rest.invariant (search rules) is).good, countable c.loop-rest.invariant (search rules) is c.requires)
 
 pub overflow_add-number : goal.overflow_add-number
-overflow_add-number c = omega (arith, (again c).number_most, (again c).within, c.requires)
+overflow_add-number c = omega (arith, c.loop-rest.invariant.number_most, c.requires)
 
-pub loop-at-smaller : goal.loop-at-smaller
-loop-at-smaller c =
-    omega (arith, (first c.loop-at.invariant (rest_is c.args.slice.now c.loop-at.at) c.loop-at-test.true c.judge_next.ensures (ap measured_of c.in-Size.is)).least, (again c).within)
+pub loop-rest-smaller : goal.loop-rest-smaller
+loop-rest-smaller c =
+    omega (arith, (first c.loop-rest.invariant (search rules) (sym c.judge_next.ensures ∙ ap measured_of c.in_ok-size.was)).least, c.split_at.ensures.back_len)
 
-pub loop-at-preserved : goal.loop-at-preserved
-loop-at-preserved c = again c
+pub loop-rest-preserved : goal.loop-rest-preserved
+loop-rest-preserved c =
+    let is = sym c.judge_next.ensures ∙ ap measured_of c.in_ok-size.was in
+    rw c.split_at.ensures.back (judged-on c.loop-rest.invariant (search rules) is c.requires (rw c.split_at.ensures.front at c.count_records-current.ensures))
 
 pub bytes_to-requires : goal.bytes_to-requires
-bytes_to-requires c = (c.loop-at.invariant.used, omega (arith, c.loop-at.invariant.few, c.loop-at.invariant.within, c.requires))
+bytes_to-requires c = (c.loop-rest.invariant.used, omega (arith, c.loop-rest.invariant.few, c.requires))
 
 pub returns : goal.returns
-returns c = all-judged c.loop-at.invariant (omega (arith, c.loop-at-test.false)) c.bytes_to.ensures
+returns c = all-judged c.loop-rest.invariant (search rules) c.bytes_to.ensures

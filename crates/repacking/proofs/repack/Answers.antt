@@ -1,24 +1,34 @@
 use mathlib.Core.Path.{sym, ap, ◌∙◌}
 use native.Mathlib.Omega.{arith}
-use Rattle.words.proofs.Laws.{all_below}
+use Rattle.std.proofs.lemmas.Result.{err_from_is_err_and}
 use Rattle.block_slice.specs.Cases.{measured_of}
-use Rattle.repacking.proofs.Outcome.{too_long, within-limit, block_refused, promised}
+use Rattle.repacking.proofs.Outcome.{needs_of, packed_short, packed_all, packed_none, can_pack, too_long, within-limit, block_refused, promised}
 use Rattle.repacking.proofs.repack.Goals as goal
 
 pub returns-then-slice-gt-MOST_BYTES : goal.returns-then-slice-gt-MOST_BYTES
-returns-then-slice-gt-MOST_BYTES c =
-    promised _ _ (all_below 256 c.args.slice.now (λ i. omega (arith, c.type_inv.slice i))) (too_long _ _ (omega (arith, c.if-slice-gt-MOST_BYTES.true)))
+returns-then-slice-gt-MOST_BYTES c = promised c.type_inv.slice (too_long _ _ (omega (arith, c.if-slice-gt-MOST_BYTES.true)))
 
-pub judge_blocks-requires : goal.judge_blocks-requires
-judge_blocks-requires c = omega (arith, c.if-slice-gt-MOST_BYTES.false)
+pub returns-in_err-needed : goal.returns-in_err-needed
+returns-in_err-needed c =
+    let p = err_from_is_err_and c.from_residual.result c.from_residual.ensures.1 in
+    rw (p.1, p.2) (promised c.type_inv.slice (block_refused _ _ (omega (arith, c.if-slice-gt-MOST_BYTES.false)) (sym (ap measured_of c.in_err-needed.was) ∙ c.judge_blocks.ensures)))
 
-pub write_packed-requires : goal.write_packed-requires
-write_packed-requires c = (sym (ap measured_of c.in-Size.is) ∙ c.judge_blocks.ensures, omega (arith, c.if-slice-gt-MOST_BYTES.false))
+pub returns-then-out-needed : goal.returns-then-out-needed
+returns-then-out-needed c =
+    let its = needs_of _ _ (sym (ap measured_of c.in_ok-needed.was) ∙ c.judge_blocks.ensures) in
+    promised c.type_inv.slice (within-limit _ _ (omega (arith, c.if-slice-gt-MOST_BYTES.false)) (packed_short _ _ its (omega (arith, c.if-out-needed.true))))
 
-pub returns-in-Wrong : goal.returns-in-Wrong
-returns-in-Wrong c =
-    promised _ _ (all_below 256 c.args.slice.now (λ i. omega (arith, c.type_inv.slice i))) (block_refused _ _ (omega (arith, c.if-slice-gt-MOST_BYTES.false)) (sym (ap measured_of c.in-Wrong.is) ∙ c.judge_blocks.ensures))
+pub returns-then-needed-eq0 : goal.returns-then-needed-eq0
+returns-then-needed-eq0 c =
+    let its = needs_of _ _ (sym (ap measured_of c.in_ok-needed.was) ∙ c.judge_blocks.ensures) in
+    promised c.type_inv.slice (within-limit _ _ (omega (arith, c.if-slice-gt-MOST_BYTES.false)) (packed_none _ _ its (omega (arith, c.if-needed-eq0.true))))
 
-pub returns-in-Size : goal.returns-in-Size
-returns-in-Size c =
-    promised _ _ (all_below 256 c.args.slice.now (λ i. omega (arith, c.type_inv.slice i))) (within-limit _ _ (omega (arith, c.if-slice-gt-MOST_BYTES.false)) c.write_packed.ensures)
+pub write_blocks-requires : goal.write_blocks-requires
+write_blocks-requires c =
+    let its = needs_of _ _ (sym (ap measured_of c.in_ok-needed.was) ∙ c.judge_blocks.ensures) in
+    can_pack _ _ its (omega (arith, c.if-slice-gt-MOST_BYTES.false)) c.if-out-needed.false c.if-needed-eq0.false
+
+pub returns : goal.returns
+returns c =
+    let its = needs_of _ _ (sym (ap measured_of c.in_ok-needed.was) ∙ c.judge_blocks.ensures) in
+    promised c.type_inv.slice (within-limit _ _ (omega (arith, c.if-slice-gt-MOST_BYTES.false)) (packed_all _ _ its c.if-out-needed.false (c.write_blocks.ensures its.blocks its.found)))
