@@ -1,13 +1,11 @@
 -- The paper's numbers for each case of what becomes of a block and its sheet.
-use Rattle.std.specs.Prelude.{ℕ}
+use Rattle.std.specs.Prelude.{ℕ, Result}
 use Rattle.units.specs.declared.Answer.{Answer}
-use Rattle.units.specs.Answers.{answer, Verdict, passed, refused}
+use Rattle.units.specs.Answers.{answer, Verdict, verdict_of}
 use Rattle.block.specs.Cases as block
 use Rattle.block_value.specs.Cases.{obstacle_of}
 use Rattle.amending.specs.declared.Objection.{Objection}
 use Rattle.amending.specs.declared.Objection.TheVariants.{Block, Broken, Value, Full, Empty, NotStanding}
-use Rattle.amending.specs.declared.Amended.{Amended}
-use Rattle.amending.specs.declared.Amended.TheVariants.{Standing, Refused}
 
 -- the block's refusals, and rows 40 to 46
 abbrev pub objection_of : Objection → Answer
@@ -19,6 +17,5 @@ objection_of Empty = answer 45 0 0 0
 objection_of NotStanding = answer 46 0 0 0
 
 -- how many amendments stand, or the refusal
-abbrev pub amended_of : Amended → Verdict ℕ
-amended_of (Standing count) = passed count
-amended_of (Refused r) = refused (objection_of r)
+abbrev pub amended_of : Result ℕ Objection → Verdict ℕ
+amended_of = verdict_of (λ count. count) objection_of

@@ -1,9 +1,8 @@
 use mathlib.Core.Path.{sym, ap, ◌∙◌}
 use Rattle.block.specs.Cases.{judged_of}
+use Rattle.sheet.specs.Cases.{opened_of}
+use Rattle.amending.proofs.Outcome.{look_ready}
 use Rattle.amending.proofs.look.Goals as goal
 
-pub returns-in-Refused : goal.returns-in-Refused
-returns-in-Refused c = rw (sym c.judge.ensures ∙ ap judged_of c.in-Refused.is)
-
-pub returns-in-Records : goal.returns-in-Records
-returns-in-Records c = rw (sym c.judge.ensures ∙ ap judged_of c.in-Records.is) c.look_at_sheet.ensures
+pub returns-clause-ready : goal.returns-clause-ready
+returns-clause-ready c = look_ready _ (sym c.judge.ensures ∙ ap judged_of c.in_ok-judge.was) (sym c.open.ensures ∙ ap opened_of c.in_ok-open.was) c.type_inv.block c.type_inv.sheet
