@@ -38,7 +38,7 @@ crates_told() {
 }
 
 # CRATE OTHER, where the code of CRATE says `OTHER::`, or its code or proofs `Rattle.OTHER`. A module that a file takes from std, as
-# `use std::io;`, is no crate.
+# `use std::io;`, is no crate, and neither is a function that is given its types, as `first_chunk::<6>`.
 crates_named() {
     find crates -regex 'crates/[^/]*/out' -prune -o \( -name '*.rt' -o -name '*.antt' \) -exec awk '
         function named(other) {
@@ -46,6 +46,7 @@ crates_named() {
         }
         FNR == 1 { split(FILENAME, path, "/"); code = FILENAME ~ /\.rt$/; split("", of_std) }
         { sub(code ? "//.*" : "(^| )-- .*", "") }
+        code { gsub(/::</, "<") }
         code && /^use std::([a-z0-9_]+::)*[a-z0-9_]+;$/ { name = $2; sub(/;/, "", name); sub(/.*::/, "", name); of_std[name] }
         /Rattle\./ {
             n = split($0, part, /Rattle\./)

@@ -30,7 +30,7 @@ promises_meant() {
             gsub(/\n? +/, " ") # what is indented goes on with the line before
             for (i = 1; i <= NF; i++) {
                 name = body = $i
-                sub(/^pub record /, "", name); sub(/ : Type .*/, "", name); gsub(/ : [^()]*\)|\(/, "", name)
+                sub(/^pub record /, "", name); sub(/ : Type .*/, "", name); gsub(/ : [^()]*(\([^()]*\))?\)|\(/, "", name)
                 if (sub(/^pub record .* pub outcome : /, "", body)) { sub(/ pub .*/, "", body); print name " = " body }
                 if (body ~ /^[A-Z].* = /) print body
             }

@@ -9,9 +9,9 @@ refusals_listed() {
     lacking "has no place in the orders of crates/refusals" <(refusals_told) <(refusals_in <$tables/Orders.antt)
 }
 
-# The numbers that a text of definitions answers.
+# The numbers that a text of definitions answers, also as the row of an output that is too short.
 refusals_in() {
-    sed 's/-- .*//' | grep -oE 'answer [1-9][0-9]*' | cut -d ' ' -f 2
+    sed 's/-- .*//' | grep -oE '(answer|written_of) [1-9][0-9]*' | cut -d ' ' -f 2
 }
 
 # The numbers that the definitions answer; demands and tables are none.
