@@ -180,9 +180,10 @@ module _ (out : List ℕ) (p : Current) (k : ℕ) {next : Current} (is : next �
 
 module _ {out : List ℕ} {p : Current} {r : List ℕ} (good : BlockRecord r) (f : Fitting out p (r ∷ [])) {k : ℕ} (size : k ≡ length r) where
   -- the current block can be sealed
-  pub can_seal : (k ≤ most_record_words) × (sealed_bytes p ≤ length out) × (sealed_bytes p ≤ count_limit)
+  pub can_seal : Fitting out p [] × (k ≤ most_record_words)
   unfolding current_after
-  can_seal = let q = room_at p (length r) good.most in (omega (arith, good.most), omega (arith, f.room, q.least), omega (arith, f.few, q.least))
+  can_seal = let q = room_at p (length r) good.most in
+      (record { used = f.used; room = omega (arith, f.room, q.least); few = omega (arith, f.few, q.least) }, omega (arith, good.most))
 
   module _ {mid : List ℕ} {q : Current} (made : RoomMade out p k mid q) where
     -- and the record has room in its block

@@ -10,7 +10,7 @@ ghost use Rattle.block.specs.Rules.{BlockRecord};
 ghost use Rattle.units.specs.Answers.{fitted};
 ghost use Rattle.block_slice.specs.Blocks.{most_bytes};
 ghost use Rattle.block_slice.specs.Cases.{measured_of};
-ghost use Rattle.packing.specs.Current.{count_limit, sealed_bytes, current_after};
+ghost use Rattle.packing.specs.Current.{current_after};
 ghost use Rattle.repacking.specs.Promises.{Repacks};
 ghost use Rattle.repacking.specs.Between.{standing, bytes_needed, Countable, Fitting, RoomMade, PutOn, Packable, PackedInto};
 ghost use Rattle.repacking.specs.Cases.{repacked_of};
@@ -54,24 +54,24 @@ fn judge_blocks(slice: &[u8]) -> Result<Bytes, SliceRefusal>
 }
 
 // Seals the current block where it stands in the output.
+// Kept: `out` and the current block are two parameters: a struct that holds the lent output was tried in report, and each contract must then say besides that it is still the same slice.
+#[tactic(auto, unfolding(packing::specs::Current::current_after))]
 fn seal_current(out: &mut [u8], current: Current)
-    requires { (current.used.0 ≤ most_record_words) × (sealed_bytes current ≤ length out.old) }
+    requires { Fitting out.old current [] }
     ensures { out.new ≡ sets out.old current.start.0 (block_from (standing out.old current)) }
 {
-    let start = current.start.0;
-    let used = current.used.0;
-    words::seal(&mut out[start..], Words(used));
+    words::seal(&mut out[current.start.0..], current.used);
 }
 
 // Makes room for a record of `k` words: where the current block has none, it is sealed and a new one begun.
+#[tactic(auto, unfolding(packing::specs::Current::current_after))]
 fn make_room(out: &mut [u8], current: Current, k: Words) -> Current
-    requires { (current.used.0 ≤ most_record_words) × (k.0 ≤ most_record_words) × (sealed_bytes current ≤ length out.old) × (sealed_bytes current ≤ count_limit) }
+    requires { Fitting out.old current [] × (k.0 ≤ most_record_words) }
     ensures { RoomMade out.old current k.0 out.new result }
 {
-    let start = current.start.0;
     let next = current.room_for(k);
     // It is still the same block.
-    if next.start.0 == start {
+    if next.start.0 == current.start.0 {
         return next;
     }
     seal_current(out, current);
@@ -85,9 +85,8 @@ fn put_record(whole: &[u8], out: &mut [u8], current: Current) -> Current
 {
     let k = words::count(whole);
     let room = make_room(out, current, k);
-    let start = room.start.0;
-    let before = room.used.0 + 1;
-    let at = start + units::bytes_of_words(Words(before)).0;
+    let before = Words(room.used.0 + 1);
+    let at = room.start.0 + units::bytes_of_words(before).0;
     words::write_bytes(whole, out, Bytes(at));
     room.with_record(k)
 }
@@ -105,6 +104,7 @@ fn put_records(block: &[u8], out: &mut [u8], current: Current) -> Current
 }
 
 // Writes the blocks of an accepted slice again, packed.
+// Kept: its loop and that of `judge_blocks` are two: that one judges a block to know its size and may stop, and this one reads the size, as all blocks are accepted.
 fn write_blocks(slice: &[u8], out: &mut [u8])
     requires { Packable slice.now out.old }
     ensures { PackedInto slice.now out.old out.new }

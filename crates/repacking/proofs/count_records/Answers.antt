@@ -14,10 +14,6 @@ loop-whole-init c = let b = c.args.block.now in
     loop_start b (all_below 256 b (λ i. omega (arith, c.type_inv.block i))) c.requires.0 c.records-whole-items.ensures c.into_iter-whole-iterator.ensures.into_iter_gives
     (record { same = refl; can = c.requires.1 })
 
-pub room_for-requires : goal.room_for-requires
-room_for-requires c = let t = turn c.loop-whole.invariant _ _ c.next.ensures.steps c.in-Some.is in
-    (t.holds.can.used, omega (arith, c.count-k.ensures, t.good.most), omega (arith, t.holds.can.bytes))
-
 pub with_record-to-requires : goal.with_record-to-requires
 with_record-to-requires c =
     let t = turn c.loop-whole.invariant _ _ c.next.ensures.steps c.in-Some.is in

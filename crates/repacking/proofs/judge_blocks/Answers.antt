@@ -23,9 +23,6 @@ count_records-current-requires c =
     let is = sym c.judge_next.ensures ∙ ap measured_of c.in_ok-size.was in
     rw c.split_at.ensures.front ((first c.loop-rest.invariant (search rules) is).good, countable c.loop-rest.invariant (search rules) is c.requires)
 
-pub overflow_add-number : goal.overflow_add-number
-overflow_add-number c = omega (arith, c.loop-rest.invariant.number_most, c.requires)
-
 pub loop-rest-smaller : goal.loop-rest-smaller
 loop-rest-smaller c =
     omega (arith, (first c.loop-rest.invariant (search rules) (sym c.judge_next.ensures ∙ ap measured_of c.in_ok-size.was)).least, c.split_at.ensures.back_len)
@@ -34,9 +31,6 @@ pub loop-rest-preserved : goal.loop-rest-preserved
 loop-rest-preserved c =
     let is = sym c.judge_next.ensures ∙ ap measured_of c.in_ok-size.was in
     rw c.split_at.ensures.back (judged-on c.loop-rest.invariant (search rules) is c.requires (rw c.split_at.ensures.front at c.count_records-current.ensures))
-
-pub bytes_to-requires : goal.bytes_to-requires
-bytes_to-requires c = (c.loop-rest.invariant.used, omega (arith, c.loop-rest.invariant.few, c.requires))
 
 pub returns : goal.returns
 returns c = all-judged c.loop-rest.invariant (search rules) c.bytes_to.ensures

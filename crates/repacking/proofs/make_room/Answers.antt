@@ -1,15 +1,10 @@
-use native.Mathlib.Omega.{arith}
+use Rattle.packing.specs.Current.{current_after}
 use Rattle.repacking.proofs.Writing.{room_here, room_behind}
 use Rattle.repacking.proofs.make_room.Goals as goal
 
-pub room_for-next-requires : goal.room_for-next-requires
-room_for-next-requires c = let pre = c.requires in (pre.0, pre.1, omega (arith, pre.3))
-
-pub returns-then-next-start : goal.returns-then-next-start
-returns-then-next-start c = room_here _ _ _ c.room_for-next.ensures c.if-next-start.true
-
-pub seal_current-requires : goal.seal_current-requires
-seal_current-requires c = let pre = c.requires in (pre.0, pre.2)
+pub returns-then-next-current : goal.returns-then-next-current
+returns-then-next-current c = room_here _ _ _ c.room_for-next.ensures c.if-next-current.true
 
 pub returns : goal.returns
-returns c = room_behind _ _ _ c.room_for-next.ensures c.if-next-start.false c.requires.1 c.requires.2 c.seal_current.ensures
+unfolding current_after
+returns c = room_behind _ _ _ c.room_for-next.ensures c.if-next-current.false c.requires.1 c.requires.0.room c.seal_current.ensures

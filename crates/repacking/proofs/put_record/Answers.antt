@@ -5,8 +5,7 @@ use Rattle.repacking.proofs.Writing.{can_seal, room-is, put-room, record-put}
 use Rattle.repacking.proofs.put_record.Goals as goal
 
 pub make_room-room-requires : goal.make_room-room-requires
-make_room-room-requires c = let pre = c.requires in let h = can_seal pre.0 pre.2 c.count-k.ensures in
-    (pre.2.used, h.0, h.1, h.2)
+make_room-room-requires c = can_seal c.requires.0 c.requires.2 c.count-k.ensures
 
 pub overflow_add-before : goal.overflow_add-before
 overflow_add-before c = omega (arith, (room-is c.requires.0 c.requires.2 c.count-k.ensures c.make_room-room.ensures).0)

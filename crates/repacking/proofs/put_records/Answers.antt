@@ -24,8 +24,5 @@ pub loop-whole-preserved : goal.loop-whole-preserved
 loop-whole-preserved c = let t = turn c.loop-whole.invariant _ _ c.next.ensures.steps c.in-Some.is in
     loop_on t (first-put t.holds (words_of c.in-Some.whole.now ∷ []) (records_left c.next.new.self) refl c.put_record-to.ensures)
 
-pub shape_of-out : goal.shape_of-out
-shape_of-out c = c.loop-whole.invariant.holds.size
-
 pub returns : goal.returns
 returns c = all-put (loop_end c.loop-whole.invariant _ _ c.next.ensures.steps c.in-None.is)

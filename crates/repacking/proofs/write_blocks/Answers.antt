@@ -1,8 +1,6 @@
 use Rattle.std.proofs.Common.{rules}
-use mathlib.Core.Path.{◌∙◌}
 use native.Mathlib.Omega.{arith}
 use Rattle.words.proofs.Laws.{all_below}
-use Rattle.packing.specs.Current.{current_after}
 use Rattle.repacking.proofs.Writing.{sealed_finished}
 use Rattle.repacking.proofs.Rewriting.{rewriting_start, next_block, room_left, last_fits, rewritten}
 use Rattle.repacking.proofs.write_blocks.Goals as goal
@@ -32,11 +30,7 @@ loop-rest-preserved c =
     rw c.split_at.ensures.back (n.on (rw c.split_at.ensures.front at c.put_records-current.ensures))
 
 pub seal_current-requires : goal.seal_current-requires
-unfolding current_after
-seal_current-requires c = let f = last_fits c.loop-rest.invariant (search rules) in (f.used, f.room)
-
-pub shape_of-out : goal.shape_of-out
-shape_of-out c = c.seal_current.auto.out ∙ c.loop-rest.invariant.going.size
+seal_current-requires c = last_fits c.loop-rest.invariant (search rules)
 
 pub returns : goal.returns
 returns c = let l = c.loop-rest in
