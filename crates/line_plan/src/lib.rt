@@ -9,8 +9,5 @@ use units::Words;
 pub fn on_line(left: Words) -> Words
     ensures { result.0 ≡ min left.0 20 }
 {
-    if left.0 < 20 {
-        return left;
-    }
-    Words(20)
+    Words(left.0.min(20))
 }
