@@ -1,63 +1,78 @@
 -- The layout of words on lines, a turn of each writer at a time.
-use mathlib.Core.Path.{◌≡◌, refl, sym, ap, ◌∙◌}
-use mathlib.Core.List.{List, [], ◌∷◌, ◌++◌, append_assoc}
-use Prim.Native.Nat.{ℕ, zero, suc, ◌+◌, ◌-◌, ◌*◌, ◌≤◌, ◌<◌, min}
-use native.Mathlib.Nat.{suc-mul, zero-add}
+use mathlib.Core.Path.{◌≡◌, refl, sym, ap, ap₂, ◌∙◌}
+use mathlib.Core.List.{List, [], ◌∷◌, ◌++◌, append_assoc, append-nil}
+use Prim.Native.Nat.{ℕ, zero, suc, ◌+◌, ◌-◌, ◌*◌, ◌/◌, ◌%◌, ◌≤◌, ◌<◌, min}
+use native.Mathlib.Nat.{suc-mul, mul-zero, zero-add, mul-div_cancel}
 use native.Mathlib.Numerals.{add-one}
 use native.Mathlib.Omega.{arith}
-use lib.ListN.{length, get_or, take, drop, length-append}
-use lib.Seq.{sets, slice, drop-cons, drop-drop, length-slice}
+use lib.ListN.{length, get_or, take, drop, length-append, length-drop, drop_of_length-le}
+use lib.Seq.{sets, slice, drop-cons, drop-drop, length-slice, take-append_seam, drop-append_seam}
+use Rattle.std.proofs.lemmas.List.{take-append-drop, take-append-le, drop-append-le}
 use Rattle.words.specs.Words.{words_of, bytes_of, Below}
 use Rattle.words.specs.Writing.{Put}
 use Rattle.words.proofs.Lists.{part_slice, all_take, all_drop}
-use Rattle.words.proofs.Laws.{bytes_words, words-slice}
+use Rattle.words.proofs.Laws.{length_words_of, bytes_words, words_append, words-slice}
 use Rattle.field.specs.Writing.{field_of}
 use Rattle.field.proofs.Written.{length_field_of}
 use Rattle.units.specs.Units.{Line}
 use Rattle.counts.specs.declared.Counts.{Counts}
 use Rattle.line_plan.specs.Plan.{part, times, tables, plan}
 use Rattle.line_plan.proofs.Plans.{part_turn, fields_in, fields_in-part, fields_in-times}
-use Rattle.write_parts.specs.Laid.{fields_of, laid, card_lines, ended}
+use Rattle.write_parts.specs.Laid.{fields_of, laid, card_lines, ended, part_text}
 
 pub length_fields_of : (ws : List ℕ) → length (fields_of ws) ≡ 6 * length ws
 unfolding fields_of
 length_fields_of [] = refl
 length_fields_of (w ∷ ws) = omega (arith, length-append (field_of w) (fields_of ws), length_field_of w, length_fields_of ws)
 
--- the next of `left` words from a place on
-next_word : (ws : List ℕ) (place left : ℕ) → 0 < left → place < length ws
-    → take left (drop place ws) ≡ get_or ws place 0 ∷ take (left - 1) (drop (place + 1) ws)
-next_word ws place left h k =
-    let e : left ≡ suc (left - 1) = omega arith in
-    ap (take left) (rw add-one (drop-cons ws place 0 k)) ∙ ap (λ n. take n (get_or ws place 0 ∷ drop (place + 1) ws)) e
-
-pub fields_turn : (ws : List ℕ) (place left w : ℕ) → 0 < left → place < length ws → w ≡ get_or ws place 0
-    → fields_of (take left (drop place ws)) ≡ field_of w ++ fields_of (take (left - 1) (drop (place + 1) ws))
+-- the word after k others of a part, and those behind it
+pub fields_turn : (ws : List ℕ) (k w : ℕ) → k < length ws → w ≡ get_or ws k 0 → fields_of (drop k ws) ≡ field_of w ++ fields_of (drop (k + 1) ws)
 unfolding fields_of
-fields_turn ws place left w h k e = ap fields_of (next_word ws place left h k) ∙ ap (λ v. field_of v ++ fields_of (take (left - 1) (drop (place + 1) ws))) (sym e)
+fields_turn ws k w h e =
+    let next : drop k ws ≡ get_or ws k 0 ∷ drop (k + 1) ws = rw add-one (drop-cons ws k 0 h) in
+    ap fields_of next ∙ ap (λ v. field_of v ++ fields_of (drop (k + 1) ws)) (sym e)
 
-pub no_fields : (ws : List ℕ) (left : ℕ) → left ≡ 0 → fields_of (take left ws) ≡ []
+pub no_fields : (ws : List ℕ) (k : ℕ) → length ws ≤ k → fields_of (drop k ws) ≡ []
 unfolding fields_of
-no_fields ws left e = rw e refl
+no_fields ws k h = ap fields_of (drop_of_length-le ws {i = k} h)
 
 -- a line, and the lines behind it
-line_turn : (n : ℕ) (ns ws : List ℕ) → ended (laid (n ∷ ns) ws) ≡ (fields_of (take n ws) ++ (10 ∷ [])) ++ ended (laid ns (drop n ws))
+first-line : (n : ℕ) (ns ws : List ℕ) → ended (laid (n ∷ ns) ws) ≡ (fields_of (take n ws) ++ (10 ∷ [])) ++ ended (laid ns (drop n ws))
 unfolding ended laid
-line_turn n ns ws = sym (append_assoc (fields_of (take n ws)) (10 ∷ []) (ended (laid ns (drop n ws))))
+first-line n ns ws = sym (append_assoc (fields_of (take n ws)) (10 ∷ []) (ended (laid ns (drop n ws))))
 
 -- a part of n words: its first line
 line_of : (ws : List ℕ) (n : ℕ) → 0 < n → ended (laid (part n) ws) ≡ (fields_of (take (min n 20) ws) ++ (10 ∷ [])) ++ ended (laid (part (n - min n 20)) (drop (min n 20) ws))
-line_of ws n h = ap (λ ns. ended (laid ns ws)) (part_turn n h) ∙ line_turn (min n 20) (part (n - min n 20)) ws
+line_of ws n h = ap (λ ns. ended (laid ns ws)) (part_turn n h) ∙ first-line (min n 20) (part (n - min n 20)) ws
 
-pub part-line : (ws : List ℕ) (place n : ℕ) → 0 < n
-    → ended (laid (part n) (drop place ws)) ≡ (fields_of (take (min n 20) (drop place ws)) ++ (10 ∷ [])) ++ ended (laid (part (n - min n 20)) (drop (place + min n 20) ws))
-part-line ws place n h =
-    line_of (drop place ws) n h
-    ∙ ap (λ l. (fields_of (take (min n 20) (drop place ws)) ++ (10 ∷ [])) ++ ended (laid (part (n - min n 20)) l)) (drop-drop (min n 20) place ws)
+-- lists of a known length, one behind the other, are taken apart
+cut : (ws vs : List ℕ) (n : ℕ) → n ≡ length ws → (take n (ws ++ vs) ≡ ws) × (drop n (ws ++ vs) ≡ vs)
+cut ws vs n e = (rw e (take-append_seam ws vs), rw e (drop-append_seam ws vs))
 
-pub no_part : (ws : List ℕ) (n : ℕ) → n ≡ 0 → ended (laid (part n) ws) ≡ []
-unfolding ended laid part
-no_part ws n e = rw e refl
+-- of whole words, the next line's bytes, and the others
+module _ (line others rest : List ℕ) (e : rest ≡ line ++ others) (even : length rest % 2 ≡ 0) (sized : length line ≡ min 40 (length rest)) (some : 0 < length rest) where
+  abbrev two : length rest ≡ length line + length others
+  two = ap length e ∙ length-append line others
+
+  pub line_even : length others % 2 ≡ 0
+  line_even = omega (arith, two)
+
+  pub line_turn : part_text (words_of rest) ≡ (fields_of (words_of line) ++ (10 ∷ [])) ++ part_text (words_of others)
+  line_turn =
+      let n = length (words_of rest) in
+      let is = ap words_of e ∙ words_append line others (omega (arith, two)) in
+      let m : min n 20 ≡ length (words_of line) = omega (arith, length_words_of line, length_words_of rest) in
+      let c = cut (words_of line) (words_of others) (min n 20) m in
+      let left : n - min n 20 ≡ length (words_of others) = omega (arith, two, length_words_of line, length_words_of rest, length_words_of others) in
+      line_of (words_of rest) n (omega (arith, length_words_of rest))
+      ∙ ap (λ ws. (fields_of (take (min n 20) ws) ++ (10 ∷ [])) ++ ended (laid (part (n - min n 20)) (drop (min n 20) ws))) is
+      ∙ ap₂ (λ ws vs. (fields_of ws ++ (10 ∷ [])) ++ ended (laid (part (n - min n 20)) vs)) c.0 c.1
+      ∙ ap (λ k. (fields_of (words_of line) ++ (10 ∷ [])) ++ ended (laid (part k) (words_of others))) left
+
+pub no_part : (b : List ℕ) → length b ≡ 0 → part_text (words_of b) ≡ []
+unfolding ended laid part words_of
+no_part [] e = refl
+no_part (x ∷ b) e = absurd (omega arith)
 
 ended-append : (ls ms : List Line) → ended (ls ++ ms) ≡ ended ls ++ ended ms
 unfolding ended
@@ -77,30 +92,64 @@ behind ns ms ws place n e =
     ∙ ended-append (laid ns (drop place ws)) (laid ms (drop (fields_in ns) (drop place ws)))
     ∙ ap (λ l. ended (laid ns (drop place ws)) ++ ended (laid ms l)) (ap (λ k. drop k (drop place ws)) e ∙ drop-drop n place ws)
 
--- a row, and the rows behind it
-pub row_turn : (ws : List ℕ) (place n left : ℕ) → 0 < left
-    → ended (laid (times left (part n)) (drop place ws)) ≡ ended (laid (part n) (drop place ws)) ++ ended (laid (times (left - 1) (part n)) (drop (place + n) ws))
-unfolding times
-row_turn ws place n left h =
-    let e : left ≡ suc (left - 1) = omega arith in
-    ap (λ k. ended (laid (times k (part n)) (drop place ws))) e ∙ behind (part n) (times (left - 1) (part n)) ws place n (fields_in-part n)
+-- lines of all of some words, and lines of those behind them
+laid-both : (ns ms ws vs : List ℕ) → fields_in ns ≡ length ws → laid (ns ++ ms) (ws ++ vs) ≡ laid ns ws ++ laid ms vs
+unfolding laid fields_in
+laid-both [] ms [] vs h = refl
+laid-both [] ms (w ∷ ws) vs h = absurd (omega arith)
+laid-both (n ∷ ns) ms ws vs h =
+    let k : n ≤ length ws = omega arith in
+    ap₂ (λ t l. fields_of t ∷ laid (ns ++ ms) l) (take-append-le n ws vs k) (drop-append-le n ws vs k)
+    ∙ ap (λ l. fields_of (take n ws) ∷ l) (laid-both ns ms (drop n ws) vs (omega (arith, length-drop n ws)))
 
-pub no_rows : (ws : List ℕ) (n left : ℕ) → left ≡ 0 → ended (laid (times left (part n)) ws) ≡ []
+-- lines take no more words than they have fields
+laid-part : (ns ws : List ℕ) (f t : ℕ) → f + fields_in ns ≡ t → t ≤ length ws → ended (laid ns (drop f ws)) ≡ ended (laid ns (slice f t ws))
+unfolding laid
+laid-part ns ws f t e h =
+    let s = slice f t ws in
+    let sized : fields_in ns ≡ length s = omega (arith, length-slice f t ws h) in
+    let is : drop f ws ≡ s ++ drop (t - f) (drop f ws) = sym (take-append-drop (t - f) (drop f ws)) ∙ ap (λ l. l ++ drop (t - f) (drop f ws)) (part_slice f t ws (omega arith)) in
+    ap₂ (λ ms l. ended (laid ms l)) (sym (append-nil ns)) is
+    ∙ ap ended (laid-both ns [] s (drop (t - f) (drop f ws)) sized ∙ append-nil (laid ns s))
+
+-- of a table of `left` rows of w words, the next row's bytes, and the others
+module _ (row others rest : List ℕ) (w : ℕ) (e : rest ≡ row ++ others) (sized : length row ≡ w * 2) (some : 0 < w) where
+  abbrev both : length rest ≡ length row + length others
+  both = ap length e ∙ length-append row others
+
+  some_left : (left : ℕ) → length rest ≡ left * (w * 2) → 0 < left
+  some_left zero h = absurd (omega (arith, both))
+  some_left (suc k) h = omega arith
+
+  pub row_whole : (left : ℕ) → length rest ≡ left * (w * 2) → length others ≡ (left - 1) * (w * 2)
+  row_whole left h =
+      let k = some_left left h in
+      let is : left ≡ suc (left - 1) = omega arith in
+      let m = ap (λ n. n * (w * 2)) is ∙ suc-mul (left - 1) (w * 2) in
+      omega (arith, both)
+
+  pub row_turn : (left : ℕ) → length rest ≡ left * (w * 2)
+      → ended (laid (times left (part w)) (words_of rest)) ≡ part_text (words_of row) ++ ended (laid (times (left - 1) (part w)) (words_of others))
+  unfolding times
+  row_turn left h =
+      let k = some_left left h in
+      let is : left ≡ suc (left - 1) = omega arith in
+      let n : length (words_of row) ≡ w = omega (arith, length_words_of row) in
+      ap₂ (λ m ws. ended (laid (times m (part w)) ws)) is (ap words_of e ∙ words_append row others (omega arith))
+      ∙ ap ended (laid-both (part w) (times (left - 1) (part w)) (words_of row) (words_of others) (fields_in-part w ∙ sym n))
+      ∙ ended-append (laid (part w) (words_of row)) (laid (times (left - 1) (part w)) (words_of others))
+      ∙ ap (λ m. ended (laid (part m) (words_of row)) ++ ended (laid (times (left - 1) (part w)) (words_of others))) (sym n)
+
+pub no_rows : (b : List ℕ) (w left : ℕ) → length b ≡ left * (w * 2) → length b < w * 2 → ended (laid (times left (part w)) (words_of b)) ≡ []
 unfolding ended laid times
-no_rows ws n left e = rw e refl
+no_rows b w zero h e = refl
+no_rows b w (suc k) h e = absurd (omega (arith, suc-mul k (w * 2)))
 
 -- rows without words take no line
 pub no_width : (ws : List ℕ) (n left : ℕ) → n ≡ 0 → ended (laid (times left (part n)) ws) ≡ []
 unfolding ended laid part times
 no_width ws n zero e = refl
 no_width ws n (suc left) e = let ih = no_width ws n left e in rw e (rw e at ih)
-
--- the words of the rows that are left
-pub rows_left : (place n left end : ℕ) → 0 < left → place + left * n ≤ end → place + n + (left - 1) * n ≤ end
-rows_left place n left end h k =
-    let e : left ≡ suc (left - 1) = omega arith in
-    let f : left * n ≡ suc (left - 1) * n = ap (λ m. m * n) e in
-    omega (arith, suc-mul (left - 1) n)
 
 -- the first line of a record: its two first fields, and the others
 pub head_turn : (a b n : ℕ) (ws : List ℕ) → 2 ≤ n
@@ -134,6 +183,18 @@ card_bytes b place h k =
     sym (bytes_words s (omega arith) (all_drop (λ x. x < 256) (place * 2) (take ((place + 40) * 2) b) (all_take (λ x. x < 256) ((place + 40) * 2) b h)))
     ∙ ap bytes_of (words-slice place (place + 40) b ∙ sym (part_slice place (place + 40) (words_of b) (omega arith)) ∙ ap (λ n. take n (drop place (words_of b))) e)
 
+-- a table's rows, told by its length: where it has no columns, their number is nothing
+rows_told : (rows n w : ℕ) → 0 < w → n ≡ rows * (w * 2) → n / (w * 2) ≡ rows
+rows_told rows n w h e = ap (λ k. k / (w * 2)) e ∙ mul-div_cancel rows (omega arith)
+
+pub rows_sized : (rows n w : ℕ) → n ≡ rows * (w * 2) → n ≡ n / (w * 2) * (w * 2)
+rows_sized rows n zero e = e ∙ mul-zero rows ∙ sym (mul-zero (n / (0 * 2)))
+rows_sized rows n (suc w) e = e ∙ ap (λ r. r * (suc w * 2)) (sym (rows_told rows n (suc w) (omega arith) e))
+
+pub rows_text : (rows n w : ℕ) (ws : List ℕ) → n ≡ rows * (w * 2) → ended (laid (times (n / (w * 2)) (part w)) ws) ≡ ended (laid (times rows (part w)) ws)
+rows_text rows n zero ws e = no_width ws 0 (n / (0 * 2)) refl ∙ sym (no_width ws 0 rows refl)
+rows_text rows n (suc w) ws e = ap (λ r. ended (laid (times r (part (suc w))) ws)) (rows_told rows n (suc w) (omega arith) e)
+
 -- a field that was put in, and the place behind it
 pub field_put : (out : List ℕ) (to w : ℕ) {out' : List ℕ} → out' ≡ sets out to (field_of w) → Put out to (field_of w) out' (to + 6)
 field_put out to w e = record { ends = rw (length_field_of w) refl; bytes = e }
@@ -145,18 +206,32 @@ shown_drop a b n ws h =
     let f : 2 + (n - 2) ≡ n = omega arith in
     ap (λ k. drop k (a ∷ (b ∷ drop 2 ws))) e ∙ drop-drop (n - 2) 2 ws ∙ ap (λ k. drop k ws) f
 
--- the first line of a Data record's prologue, and the others
-pub prologue_text : (lines : ℕ) (ws : List ℕ) (lprol : ℕ) → 16 ≤ lprol → let shown = lines ∷ (1101 ∷ drop 2 ws) in
-    ended (laid (part lprol) shown) ≡ (fields_of (take (min lprol 20) shown) ++ (10 ∷ [])) ++ ended (laid (part (lprol - min lprol 20)) (drop (min lprol 20) ws))
-prologue_text lines ws lprol least = let shown = lines ∷ (1101 ∷ drop 2 ws) in
+-- the words of a part of a record, and how many bytes they take
+pub span-words : (b : List ℕ) (f t : ℕ) {part : List ℕ} → t ≤ length (words_of b) → part ≡ slice (f * 2) (t * 2) b → (length part ≡ (t - f) * 2) × (words_of part ≡ slice f t (words_of b))
+span-words b f t h e = (omega (arith, ap length e, length-slice (f * 2) (t * 2) b (omega (arith, length_words_of b))), ap words_of e ∙ words-slice f t b)
+
+-- the first line of a Data record's prologue, n fields, and the others
+pub prologue_text : (lines n : ℕ) (ws : List ℕ) (lprol : ℕ) → 16 ≤ lprol → lprol ≤ length ws → n ≡ min lprol 20 → let shown = lines ∷ (1101 ∷ drop 2 ws) in
+    ended (laid (part lprol) shown) ≡ (fields_of (take n shown) ++ (10 ∷ [])) ++ part_text (slice n lprol ws)
+prologue_text lines n ws lprol least most e = let shown = lines ∷ (1101 ∷ drop 2 ws) in
+    let m = lprol - n in
+    let sized : length (slice n lprol ws) ≡ m = length-slice n lprol ws most in
     line_of shown lprol (omega arith)
-    ∙ ap (λ l. (fields_of (take (min lprol 20) shown) ++ (10 ∷ [])) ++ ended (laid (part (lprol - min lprol 20)) l)) (shown_drop lines 1101 (min lprol 20) ws (omega arith))
+    ∙ ap (λ k. (fields_of (take k shown) ++ (10 ∷ [])) ++ ended (laid (part (lprol - k)) (drop k shown))) (sym e)
+    ∙ ap (λ l. (fields_of (take n shown) ++ (10 ∷ [])) ++ ended (laid (part m) l)) (shown_drop lines 1101 n ws (omega arith))
+    ∙ ap (λ t. (fields_of (take n shown) ++ (10 ∷ [])) ++ t) (laid-part (part m) ws n lprol (omega (arith, fields_in-part m)) most)
+    ∙ ap (λ k. (fields_of (take n shown) ++ (10 ∷ [])) ++ ended (laid (part k) (slice n lprol ws))) (sym sized)
 
 module _ (ws : List ℕ) (c : Counts) where
   -- its tables: the 1-D codes and values, the 2-D codes and rows
-  pub tables-text : ended (laid (tables c) (drop c.lprol ws))
-      ≡ ended (laid (times 2 (part c.jpar)) (drop c.lprol ws)) ++ ended (laid (times (c.nrow + 1) (part c.mpar)) (drop (c.lprol + 2 * c.jpar) ws))
-  tables-text = behind (times 2 (part c.jpar)) (times (c.nrow + 1) (part c.mpar)) ws c.lprol (2 * c.jpar) (fields_in-times 2 c.jpar)
+  pub tables-text : (table end : ℕ) → table ≡ c.lprol + 2 * c.jpar → end ≡ table + (c.nrow + 1) * c.mpar → end ≤ length ws → ended (laid (tables c) (drop c.lprol ws))
+      ≡ ended (laid (times 2 (part c.jpar)) (slice c.lprol table ws)) ++ ended (laid (times (c.nrow + 1) (part c.mpar)) (slice table end ws))
+  tables-text table end e f h =
+      let singles = times 2 (part c.jpar) in
+      let rows = times (c.nrow + 1) (part c.mpar) in
+      behind singles rows ws c.lprol (2 * c.jpar) (fields_in-times 2 c.jpar)
+      ∙ ap (λ k. ended (laid singles (drop c.lprol ws)) ++ ended (laid rows (drop k ws))) (sym e)
+      ∙ ap₂ ◌++◌ (laid-part singles ws c.lprol table (omega (arith, fields_in-times 2 c.jpar)) (omega arith)) (laid-part rows ws table end (omega (arith, fields_in-times (c.nrow + 1) c.mpar)) h)
 
   -- its text: the prologue, then the tables
   pub plan-text : (lines : ℕ) → 16 ≤ c.lprol → let shown = lines ∷ (1101 ∷ drop 2 ws) in

@@ -1,8 +1,9 @@
 -- Document 01, "The lines": words laid out in lines of number fields and in cards.
-use Rattle.std.specs.Prelude.{ℕ, zero, suc, List, [], ◌∷◌, ◌++◌, take, drop}
+use Rattle.std.specs.Prelude.{ℕ, zero, suc, List, [], ◌∷◌, ◌++◌, length, take, drop}
 use Rattle.units.specs.Units.{Line}
 use Rattle.words.specs.Words.{bytes_of}
 use Rattle.field.specs.Writing.{field_of}
+use Rattle.line_plan.specs.Plan.{part}
 
 -- number fields, one after the other
 unfoldable pub fields_of : List ℕ → Line
@@ -23,3 +24,7 @@ card_lines (suc n) ws = bytes_of (take 40 ws) ∷ card_lines n (drop 40 ws)
 unfoldable pub ended : List Line → List ℕ
 ended [] = []
 ended (l ∷ ls) = l ++ (10 ∷ ended ls)
+
+-- words in lines of their own
+abbrev pub part_text : List ℕ → List ℕ
+part_text ws = ended (laid (part (length ws)) ws)

@@ -1,85 +1,66 @@
 // Words laid out in lines of fields and in cards, written straight into the lent text.
 #![tactic(auto)]
 
-ghost use Rattle.std.specs.Prelude.{[], ◌∷◌, ◌++◌, ◌+◌, ◌*◌, ◌≤◌, length, take, drop};
+ghost use Rattle.std.specs.Prelude.{ℕ, [], ◌∷◌, ◌++◌, ◌≡◌, ◌+◌, ◌*◌, ◌%◌, ◌^◌, ◌<◌, ◌≤◌, length, take, drop};
 ghost use Rattle.units.specs.Units.{words_of_cards};
 ghost use Rattle.words.specs.Words.{words_of};
 ghost use Rattle.words.specs.Writing.{Room, Put};
 ghost use Rattle.counts.specs.Counts.{words_needed};
 ghost use Rattle.line_plan.specs.Plan.{part, times, tables, plan};
-ghost use Rattle.write_parts.specs.Laid.{fields_of, laid, card_lines, ended};
+ghost use Rattle.write_parts.specs.Laid.{fields_of, laid, card_lines, ended, part_text};
 
 use counts::Counts;
 use units::{Bytes, Lines, Words};
 
-// Writes `count` words of a record from place `from` on as fields.
-fn write_fields(whole: &[u8], from: Words, count: Words, out: &mut [u8], at: Bytes) -> Bytes
-    requires { (from.0 + count.0 ≤ length (words_of whole.now)) × Room out.old at.0 (fields_of (take count.0 (drop from.0 (words_of whole.now)))) }
-    ensures { Put out.old at.0 (fields_of (take count.0 (drop from.0 (words_of whole.now)))) out.new result.0 }
+// Writes the words of a part as fields.
+fn write_fields(part: &[u8], out: &mut [u8], at: Bytes) -> Bytes
+    requires { Room out.old at.0 (fields_of (words_of part.now)) }
+    ensures { Put out.old at.0 (fields_of (words_of part.now)) out.new result.0 }
 {
-    let mut place = from.0;
-    let mut left = count.0;
     let mut to = at.0;
-    while 0 < left {
-        field::write_field(out, Bytes(to), words::word_at(whole, Words(place)));
-        place += 1;
-        left -= 1;
+    let count = words::count(part).0;
+    for k in 0..count {
+        field::write_field(out, Bytes(to), words::word_at(part, Words(k)));
         to += 6;
     }
     Bytes(to)
 }
 
 // Writes them as a line.
-fn write_line(whole: &[u8], from: Words, count: Words, out: &mut [u8], at: Bytes) -> Bytes
-    requires { (from.0 + count.0 ≤ length (words_of whole.now)) × Room out.old at.0 (fields_of (take count.0 (drop from.0 (words_of whole.now))) ++ (10 ∷ [])) }
-    ensures { Put out.old at.0 (fields_of (take count.0 (drop from.0 (words_of whole.now))) ++ (10 ∷ [])) out.new result.0 }
+fn write_line(part: &[u8], out: &mut [u8], at: Bytes) -> Bytes
+    requires { Room out.old at.0 (fields_of (words_of part.now) ++ (10 ∷ [])) }
+    ensures { Put out.old at.0 (fields_of (words_of part.now) ++ (10 ∷ [])) out.new result.0 }
 {
-    let end = write_fields(whole, from, count, out, at).0;
+    let end = write_fields(part, out, at).0;
     out[end] = b'\n';
-    let next = end + 1;
-    Bytes(next)
+    Bytes(end + 1)
 }
 
-// Writes a part: `count` words in lines of 20.
-fn write_part(whole: &[u8], from: Words, count: Words, out: &mut [u8], at: Bytes) -> Bytes
-    requires { (from.0 + count.0 ≤ length (words_of whole.now)) × Room out.old at.0 (ended (laid (part count.0) (drop from.0 (words_of whole.now)))) }
-    ensures { Put out.old at.0 (ended (laid (part count.0) (drop from.0 (words_of whole.now)))) out.new result.0 }
+// Writes them in lines of 20.
+fn write_part(part: &[u8], out: &mut [u8], at: Bytes) -> Bytes
+    requires { (length part.now % 2 ≡ 0) × Room out.old at.0 (part_text (words_of part.now)) }
+    ensures { Put out.old at.0 (part_text (words_of part.now)) out.new result.0 }
 {
-    let mut place = from.0;
-    let mut left = count.0;
     let mut to = at;
-    while 0 < left {
-        let n = line_plan::on_line(Words(left)).0;
-        to = write_line(whole, Words(place), Words(n), out, to);
-        place += n;
-        left -= n;
+    for line in part.chunks(units::bytes_of_words(Words(20)).0) {
+        to = write_line(line, out, to);
     }
     to
 }
 
-// Writes `rows` rows of `width` words, each a part of its own.
-fn write_rows(
-    whole: &[u8],
-    from: Words,
-    width: Words,
-    rows: usize,
-    out: &mut [u8],
-    at: Bytes,
-) -> Bytes
-    requires { (from.0 + rows * width.0 ≤ length (words_of whole.now)) × Room out.old at.0 (ended (laid (times rows (part width.0)) (drop from.0 (words_of whole.now)))) }
-    ensures { Put out.old at.0 (ended (laid (times rows (part width.0)) (drop from.0 (words_of whole.now)))) out.new result.0 }
+// Writes the rows of a table, `width` words each, each a part of its own.
+fn write_rows(table: &[u8], width: Words, out: &mut [u8], at: Bytes) -> Bytes
+    ghost rows: { ℕ }
+    requires { (width.0 < 2 ^ 16) × (length table.now ≡ rows * (width.0 * 2)) × Room out.old at.0 (ended (laid (times rows (part width.0)) (words_of table.now))) }
+    ensures { Put out.old at.0 (ended (laid (times rows (part width.0)) (words_of table.now))) out.new result.0 }
 {
-    let each = width.0;
-    if each == 0 {
+    // A table without columns takes no line.
+    if width.0 == 0 {
         return at;
     }
-    let mut place = from.0;
-    let mut left = rows;
     let mut to = at;
-    while 0 < left {
-        to = write_part(whole, Words(place), width, out, to);
-        place += each;
-        left -= 1;
+    for row in table.chunks_exact(units::bytes_of_words(width).0) {
+        to = write_part(row, out, to);
     }
     to
 }
@@ -89,21 +70,13 @@ pub fn write_cards(whole: &[u8], from: Words, cards: Lines, out: &mut [u8], at: 
     requires { (from.0 + words_of_cards cards.0 ≤ length (words_of whole.now)) × Room out.old at.0 (ended (card_lines cards.0 (drop from.0 (words_of whole.now)))) }
     ensures { Put out.old at.0 (ended (card_lines cards.0 (drop from.0 (words_of whole.now)))) out.new result.0 }
 {
-    let mut place = from.0;
-    let mut left = cards.0;
     let mut to = at.0;
-    while 0 < left {
-        let next = place + 40;
-        let end = words::write_bytes(
-            words::span(whole, Words(place), Words(next)),
-            out,
-            Bytes(to),
-        )
-        .0;
+    for k in 0..cards.0 {
+        let place = from.0 + 40 * k;
+        let card = words::span(whole, Words(place), Words(place + 40));
+        let end = words::write_bytes(card, out, Bytes(to)).0;
         out[end] = b'\n';
         to = end + 1;
-        place = next;
-        left -= 1;
     }
     Bytes(to)
 }
@@ -123,10 +96,9 @@ pub fn write_head(
     let first = at.0;
     let second = first + 6;
     let third = second + 6;
-    let count = fields.0 - 2;
     field::write_field(out, Bytes(first), lines);
     field::write_field(out, Bytes(second), kind);
-    write_line(whole, Words(2), Words(count), out, Bytes(third))
+    write_line(words::span(whole, Words(2), fields), out, Bytes(third))
 }
 
 // Writes the prologue of a Data record, `lprol` words in lines of 20.
@@ -135,9 +107,8 @@ fn write_prologue(whole: &[u8], lines: u16, lprol: Words, out: &mut [u8], at: By
     ensures { Put out.old at.0 (ended (laid (part lprol.0) (lines ∷ (1101 ∷ drop 2 (words_of whole.now))))) out.new result.0 }
 {
     let first = line_plan::on_line(lprol);
-    let more = lprol.0 - first.0;
     let to = write_head(whole, lines, 1101, first, out, at);
-    write_part(whole, first, Words(more), out, to)
+    write_part(words::span(whole, first, lprol), out, to)
 }
 
 // Writes the tables of a Data record: the 1-D codes and values, the 2-D codes and rows.
@@ -150,8 +121,15 @@ fn write_tables(whole: &[u8], c: Counts, out: &mut [u8], at: Bytes) -> Bytes
     let across = c.mpar as usize;
     let rows = c.nrow as usize + 1;
     let table = codes + 2 * single;
-    let to = write_rows(whole, Words(codes), Words(single), 2, out, at);
-    write_rows(whole, Words(table), Words(across), rows, out, to)
+    let end = table + rows * across;
+    let singles = words::span(whole, Words(codes), Words(table));
+    let to = write_rows(singles, Words(single), out, at);
+    write_rows(
+        words::span(whole, Words(table), Words(end)),
+        Words(across),
+        out,
+        to,
+    )
 }
 
 // Writes the lines that the counts plan: the prologue, then the tables.
@@ -159,7 +137,6 @@ pub fn write_plan(whole: &[u8], lines: u16, c: Counts, out: &mut [u8], at: Bytes
     requires { (16 ≤ c.lprol) × (words_needed c ≤ length (words_of whole.now)) × Room out.old at.0 (ended (laid (plan c) (lines ∷ (1101 ∷ drop 2 (words_of whole.now))))) }
     ensures { Put out.old at.0 (ended (laid (plan c) (lines ∷ (1101 ∷ drop 2 (words_of whole.now))))) out.new result.0 }
 {
-    let lprol = c.lprol as usize;
-    let to = write_prologue(whole, lines, Words(lprol), out, at);
+    let to = write_prologue(whole, lines, Words(c.lprol as usize), out, at);
     write_tables(whole, c, out, to)
 }

@@ -1,12 +1,8 @@
 use Rattle.write_parts.specs.Laid.{fields_of}
 use Rattle.words.proofs.Writing.{Going}
 use Rattle.words.specs.Words.{words_of}
-use lib.ListN.{length, take, drop}
-use Prim.Native.Nat.{◌+◌, ◌≤◌}
+use lib.ListN.{drop}
 use Rattle.write_parts.proofs.write_fields.Given as goal
 
-abbrev pub invariant-loop-left : goal.invariant-loop-left
-invariant-loop-left l = (l.place + l.left ≤ length (words_of l.whole)) × Going l.initial.out l.initial.to (fields_of (take l.initial.left (drop l.initial.place (words_of l.whole)))) l.out l.to (fields_of (take l.left (drop l.place (words_of l.whole))))
-
-abbrev pub decreases-loop-left : goal.decreases-loop-left
-decreases-loop-left l = l.left
+abbrev pub invariant-loop-k : goal.invariant-loop-k
+invariant-loop-k l = Going l.initial.out l.initial.to (fields_of (words_of l.part)) l.out l.to (fields_of (drop l.k (words_of l.part)))

@@ -2,7 +2,7 @@ use Rattle.write_parts.specs.Laid.{fields_of}
 use Rattle.words.proofs.Writing.{Going, start, fits, on, byte_put, done}
 use Rattle.words.specs.Words.{words_of}
 use Rattle.words.specs.Writing.{Room, Put}
-use lib.ListN.{length, take, drop}
+use lib.ListN.{length}
 use native.Mathlib.Omega.{arith}
 use mathlib.Core.List.{List, [], ◌∷◌, ◌++◌}
 use mathlib.Core.Path.{refl}
@@ -19,13 +19,13 @@ module _ {o : List ℕ} {at : ℕ} {fields out : List ℕ} {to : ℕ} (p : Put o
 
 pub write_fields-end-requires : goal.write_fields-end-requires
 write_fields-end-requires c = let a = c.args in
-    (c.requires.0, fits {o = a.out.now} start (fields_of (take a.count.0 (drop a.from.0 (words_of a.whole.now)))) (10 ∷ []) refl c.requires.1)
+    fits {o = a.out.now} start (fields_of (words_of a.part.now)) (10 ∷ []) refl c.requires
 
 pub bounds-out-end : goal.bounds-out-end
-bounds-out-end c = omega (arith, room c.write_fields-end.ensures c.requires.1)
+bounds-out-end c = omega (arith, room c.write_fields-end.ensures c.requires)
 
-pub overflow_add-next : goal.overflow_add-next
-overflow_add-next c = omega (arith, room c.write_fields-end.ensures c.requires.1, (going c.write_fields-end.ensures).kept)
+pub overflow_add-result : goal.overflow_add-result
+overflow_add-result c = omega (arith, room c.write_fields-end.ensures c.requires, (going c.write_fields-end.ensures).kept)
 
 pub returns : goal.returns
 returns c = done (on (going c.write_fields-end.ensures) (10 ∷ []) [] refl (byte_put _ _ 10)) refl

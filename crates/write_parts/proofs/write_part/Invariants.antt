@@ -1,13 +1,13 @@
-use Rattle.write_parts.specs.Laid.{laid, ended}
-use Rattle.line_plan.specs.Plan.{part}
+use Rattle.std.specs.Prelude.{◌≡◌, ◌%◌, length}
+use Rattle.std.specs.Slice.Iter.{chunks_rest, chunks_size}
+use Rattle.write_parts.specs.Laid.{part_text}
 use Rattle.words.proofs.Writing.{Going}
 use Rattle.words.specs.Words.{words_of}
-use lib.ListN.{length, drop}
-use Prim.Native.Nat.{◌+◌, ◌≤◌}
 use Rattle.write_parts.proofs.write_part.Given as goal
 
-abbrev pub invariant-loop-left : goal.invariant-loop-left
-invariant-loop-left l = (l.place + l.left ≤ length (words_of l.whole)) × Going l.initial.out l.initial.to.0 (ended (laid (part l.initial.left) (drop l.initial.place (words_of l.whole)))) l.out l.to.0 (ended (laid (part l.left) (drop l.place (words_of l.whole))))
-
-abbrev pub decreases-loop-left : goal.decreases-loop-left
-decreases-loop-left l = l.left
+abbrev pub invariant-loop-line : goal.invariant-loop-line
+invariant-loop-line l = record {
+  sized : chunks_size l.line-iterator ≡ 40;
+  even : length (chunks_rest l.line-iterator) % 2 ≡ 0;
+  going : Going l.initial.out l.initial.to.0 (part_text (words_of l.fn.part)) l.out l.to.0 (part_text (words_of (chunks_rest l.line-iterator)));
+}

@@ -1,13 +1,19 @@
+use Rattle.std.specs.Prelude.{ℕ, ◌≡◌, ◌*◌, List, length}
+use Rattle.std.specs.Slice.Iter.{chunks_exact_rest, chunks_exact_size}
 use Rattle.write_parts.specs.Laid.{laid, ended}
 use Rattle.line_plan.specs.Plan.{part, times}
 use Rattle.words.proofs.Writing.{Going}
 use Rattle.words.specs.Words.{words_of}
-use lib.ListN.{length, drop}
-use Prim.Native.Nat.{◌+◌, ◌*◌, ◌≤◌}
 use Rattle.write_parts.proofs.write_rows.Given as goal
 
-abbrev pub invariant-loop-left : goal.invariant-loop-left
-invariant-loop-left l = (l.place + l.left * l.each ≤ length (words_of l.whole)) × Going l.initial.out l.initial.to.0 (ended (laid (times l.initial.left (part l.each)) (drop l.initial.place (words_of l.whole)))) l.out l.to.0 (ended (laid (times l.left (part l.each)) (drop l.place (words_of l.whole))))
+-- so many rows are still to be put
+pub record RowsLeft (width : ℕ) (before : List ℕ) (at : ℕ) (whole out : List ℕ) (to : ℕ) (rest : List ℕ) : Type 0 where
+  pub left : ℕ
+  pub sized : length rest ≡ left * (width * 2)
+  pub going : Going before at whole out to (ended (laid (times left (part width)) (words_of rest)))
 
-abbrev pub decreases-loop-left : goal.decreases-loop-left
-decreases-loop-left l = l.left
+abbrev pub invariant-loop-row : goal.invariant-loop-row
+invariant-loop-row g l =
+    let width = l.fn.width.0 in
+    (chunks_exact_size l.row-iterator ≡ width * 2)
+    × RowsLeft width l.initial.out l.initial.to.0 (ended (laid (times g.rows (part width)) (words_of l.fn.table))) l.out l.to.0 (chunks_exact_rest l.row-iterator)
