@@ -13,13 +13,12 @@ fn write_digit(d: u32, out: &mut [u8], at: Bytes) -> Bytes
     requires { (d < 10) × Room out.old at.0 ((48 + d) ∷ []) }
     ensures { Put out.old at.0 ((48 + d) ∷ []) out.new result.0 }
 {
-    let to = at.0;
-    out[to] = 48 + d as u8;
-    let next = to + 1;
-    Bytes(next)
+    out[at.0] = b'0' + d as u8;
+    Bytes(at.0 + 1)
 }
 
 // Puts a number in decimal: the digits before its last are those of its tens.
+// Kept: not by Display: `write!` to a lent slice promises none of its bytes (its `contents` are None), and all stands on std alone (README), not on itoa.
 pub fn write_number(n: u32, out: &mut [u8], at: Bytes) -> Bytes
     requires { Room out.old at.0 (decimal_of n) }
     ensures { Put out.old at.0 (decimal_of n) out.new result.0 }
@@ -36,14 +35,10 @@ pub fn write_spaced(numbers: &[u32], out: &mut [u8], at: Bytes) -> Bytes
     requires { Room out.old at.0 (spaced numbers.now) }
     ensures { Put out.old at.0 (spaced numbers.now) out.new result.0 }
 {
-    let end = numbers.len();
-    let mut i = 0;
     let mut to = at.0;
-    while i < end {
+    for n in numbers {
         out[to] = b' ';
-        let next = to + 1;
-        to = write_number(numbers[i], out, Bytes(next)).0;
-        i += 1;
+        to = write_number(*n, out, Bytes(to + 1)).0;
     }
     Bytes(to)
 }
@@ -53,11 +48,8 @@ pub fn write_refusal(r: Answer, out: &mut [u8], at: Bytes) -> Bytes
     requires { Room out.old at.0 (refusal_line r) }
     ensures { Put out.old at.0 (refusal_line r) out.new result.0 }
 {
-    let n = r.n as u32;
-    let a = r.a;
-    let b = r.b as u32;
-    let c = r.c as u32;
+    let numbers = [u32::from(r.n), r.a, u32::from(r.b), u32::from(r.c)];
     let to = words::write_bytes(b"refused", out, at);
-    let to = write_spaced(&[n, a, b, c], out, to);
+    let to = write_spaced(&numbers, out, to);
     words::write_bytes(b"\n", out, to)
 }
