@@ -1,7 +1,6 @@
 // Turns lines, which are all of standard input, into their block, or says how they are refused: tests them first, and only then finds room for a block.
 #![tactic(auto)]
 
-use read_text::Judged;
 use std::io;
 use std::io::Print;
 
@@ -18,10 +17,8 @@ fn put_refusal(rt: &HostRuntime, text: &[u8]) -> io::Result<()> {
 }
 
 fn main(rt: HostRuntime) -> io::Result<()> {
-    let mut input = [0u8; 65537];
-    let n = read_input::read_full(&mut rt.reader(), &mut input)?;
-    match read_text::judge_lines(&input[..n]) {
-        Judged::Size(_) => put_block(&rt, &input[..n]),
-        Judged::Flawed(_) => put_refusal(&rt, &input[..n]),
-    }
+    read_input::with_input::<65537, _>(&rt, |text| match read_text::judge_lines(text) {
+        Ok(_) => put_block(&rt, text),
+        Err(_) => put_refusal(&rt, text),
+    })
 }
