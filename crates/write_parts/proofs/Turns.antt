@@ -1,36 +1,39 @@
 -- The layout of words on lines, a turn of each writer at a time.
 use mathlib.Core.Path.{◌≡◌, refl, sym, ap, ap₂, ◌∙◌}
-use mathlib.Core.List.{List, [], ◌∷◌, ◌++◌, append_assoc, append-nil}
-use Prim.Native.Nat.{ℕ, zero, suc, ◌+◌, ◌-◌, ◌*◌, ◌/◌, ◌%◌, ◌≤◌, ◌<◌, min}
+use mathlib.Core.List.{List, [], ◌∷◌, ◌++◌, map, append_assoc, append-nil}
+use Prim.Native.Nat.{ℕ, zero, suc, ◌+◌, ◌-◌, ◌*◌, ◌/◌, ◌≤◌, ◌<◌, min}
 use native.Mathlib.Nat.{suc-mul, mul-zero, zero-add, mul-div_cancel}
 use native.Mathlib.Numerals.{add-one}
 use native.Mathlib.Omega.{arith}
 use lib.ListN.{length, get_or, take, drop, length-append, length-drop, drop_of_length-le}
-use lib.Seq.{sets, slice, drop-cons, drop-drop, length-slice, take-append_seam, drop-append_seam}
-use Rattle.std.proofs.lemmas.List.{take-append-drop, take-append-le, drop-append-le}
+use lib.Seq.{sets, slice, drop-cons, drop-drop, length-slice, length-take-le, take-append_seam, drop-append_seam}
+use Rattle.std.proofs.lemmas.List.{take-append-drop, take-append-le, drop-append-le, take-map, drop-map}
+use Rattle.std.specs.Int.{w16, from_be_bytes}
 use Rattle.words.specs.Words.{words_of, bytes_of, Below}
 use Rattle.words.specs.Writing.{Put}
 use Rattle.words.proofs.Lists.{part_slice, all_take, all_drop}
-use Rattle.words.proofs.Laws.{length_words_of, bytes_words, words_append, words-slice}
+use Rattle.words.proofs.Laws.{bytes_words, words-slice}
 use Rattle.field.specs.Writing.{field_of}
 use Rattle.field.proofs.Written.{length_field_of}
 use Rattle.units.specs.Units.{Line}
 use Rattle.counts.specs.declared.Counts.{Counts}
 use Rattle.line_plan.specs.Plan.{part, times, tables, plan}
 use Rattle.line_plan.proofs.Plans.{part_turn, fields_in, fields_in-part, fields_in-times}
-use Rattle.write_parts.specs.Laid.{fields_of, laid, card_lines, ended, part_text}
+use Rattle.write_parts.specs.Laid.{fields_of, laid, card_lines, ended, part_text, pair_words}
 
 pub length_fields_of : (ws : List ℕ) → length (fields_of ws) ≡ 6 * length ws
 unfolding fields_of
 length_fields_of [] = refl
 length_fields_of (w ∷ ws) = omega (arith, length-append (field_of w) (fields_of ws), length_field_of w, length_fields_of ws)
 
--- the word after k others of a part, and those behind it
-pub fields_turn : (ws : List ℕ) (k w : ℕ) → k < length ws → w ≡ get_or ws k 0 → fields_of (drop k ws) ≡ field_of w ++ fields_of (drop (k + 1) ws)
+-- the word after k others, and those behind it
+pub fields_turn : (ps : List (List ℕ)) (k w : ℕ) (d : List ℕ) → k < length ps → w ≡ from_be_bytes w16 (get_or ps k d)
+    → fields_of (drop k (pair_words ps)) ≡ field_of w ++ fields_of (drop (k + 1) (pair_words ps))
 unfolding fields_of
-fields_turn ws k w h e =
-    let next : drop k ws ≡ get_or ws k 0 ∷ drop (k + 1) ws = rw add-one (drop-cons ws k 0 h) in
-    ap fields_of next ∙ ap (λ v. field_of v ++ fields_of (drop (k + 1) ws)) (sym e)
+fields_turn ps k w d h e =
+    let f = from_be_bytes w16 in
+    let next : drop k ps ≡ get_or ps k d ∷ drop (k + 1) ps = rw add-one (drop-cons ps k d h) in
+    ap fields_of (drop-map f k ps ∙ ap (λ l. map f l) next) ∙ ap₂ (λ v l. field_of v ++ fields_of l) (sym e) (sym (drop-map f (k + 1) ps))
 
 pub no_fields : (ws : List ℕ) (k : ℕ) → length ws ≤ k → fields_of (drop k ws) ≡ []
 unfolding fields_of
@@ -49,30 +52,24 @@ line_of ws n h = ap (λ ns. ended (laid ns ws)) (part_turn n h) ∙ first-line (
 cut : (ws vs : List ℕ) (n : ℕ) → n ≡ length ws → (take n (ws ++ vs) ≡ ws) × (drop n (ws ++ vs) ≡ vs)
 cut ws vs n e = (rw e (take-append_seam ws vs), rw e (drop-append_seam ws vs))
 
--- of whole words, the next line's bytes, and the others
-module _ (line others rest : List ℕ) (e : rest ≡ line ++ others) (even : length rest % 2 ≡ 0) (sized : length line ≡ min 40 (length rest)) (some : 0 < length rest) where
-  abbrev two : length rest ≡ length line + length others
-  two = ap length e ∙ length-append line others
+-- the next line's words, and the others
+pub line_turn : (all line others : List ℕ) → all ≡ line ++ others → length line ≡ min 20 (length all) → 0 < length all
+    → part_text all ≡ (fields_of line ++ (10 ∷ [])) ++ part_text others
+line_turn all line others e sized some =
+    let n = length all in
+    let two = ap length e ∙ length-append line others in
+    let m : min n 20 ≡ length line = omega arith in
+    let c = cut line others (min n 20) m in
+    let left : n - min n 20 ≡ length others = omega (arith, two) in
+    line_of all n some
+    ∙ ap (λ ws. (fields_of (take (min n 20) ws) ++ (10 ∷ [])) ++ ended (laid (part (n - min n 20)) (drop (min n 20) ws))) e
+    ∙ ap₂ (λ ws vs. (fields_of ws ++ (10 ∷ [])) ++ ended (laid (part (n - min n 20)) vs)) c.0 c.1
+    ∙ ap (λ k. (fields_of line ++ (10 ∷ [])) ++ ended (laid (part k) others)) left
 
-  pub line_even : length others % 2 ≡ 0
-  line_even = omega (arith, two)
-
-  pub line_turn : part_text (words_of rest) ≡ (fields_of (words_of line) ++ (10 ∷ [])) ++ part_text (words_of others)
-  line_turn =
-      let n = length (words_of rest) in
-      let is = ap words_of e ∙ words_append line others (omega (arith, two)) in
-      let m : min n 20 ≡ length (words_of line) = omega (arith, length_words_of line, length_words_of rest) in
-      let c = cut (words_of line) (words_of others) (min n 20) m in
-      let left : n - min n 20 ≡ length (words_of others) = omega (arith, two, length_words_of line, length_words_of rest, length_words_of others) in
-      line_of (words_of rest) n (omega (arith, length_words_of rest))
-      ∙ ap (λ ws. (fields_of (take (min n 20) ws) ++ (10 ∷ [])) ++ ended (laid (part (n - min n 20)) (drop (min n 20) ws))) is
-      ∙ ap₂ (λ ws vs. (fields_of ws ++ (10 ∷ [])) ++ ended (laid (part (n - min n 20)) vs)) c.0 c.1
-      ∙ ap (λ k. (fields_of (words_of line) ++ (10 ∷ [])) ++ ended (laid (part k) (words_of others))) left
-
-pub no_part : (b : List ℕ) → length b ≡ 0 → part_text (words_of b) ≡ []
-unfolding ended laid part words_of
+pub no_part : (ws : List ℕ) → length ws ≡ 0 → part_text ws ≡ []
+unfolding ended laid part
 no_part [] e = refl
-no_part (x ∷ b) e = absurd (omega arith)
+no_part (w ∷ ws) e = absurd (omega arith)
 
 ended-append : (ls ms : List Line) → ended (ls ++ ms) ≡ ended ls ++ ended ms
 unfolding ended
@@ -103,47 +100,49 @@ laid-both (n ∷ ns) ms ws vs h =
     ∙ ap (λ l. fields_of (take n ws) ∷ l) (laid-both ns ms (drop n ws) vs (omega (arith, length-drop n ws)))
 
 -- lines take no more words than they have fields
-laid-part : (ns ws : List ℕ) (f t : ℕ) → f + fields_in ns ≡ t → t ≤ length ws → ended (laid ns (drop f ws)) ≡ ended (laid ns (slice f t ws))
+laid-front : (ns ws : List ℕ) (n : ℕ) → fields_in ns ≡ n → n ≤ length ws → ended (laid ns ws) ≡ ended (laid ns (take n ws))
 unfolding laid
-laid-part ns ws f t e h =
-    let s = slice f t ws in
-    let sized : fields_in ns ≡ length s = omega (arith, length-slice f t ws h) in
-    let is : drop f ws ≡ s ++ drop (t - f) (drop f ws) = sym (take-append-drop (t - f) (drop f ws)) ∙ ap (λ l. l ++ drop (t - f) (drop f ws)) (part_slice f t ws (omega arith)) in
-    ap₂ (λ ms l. ended (laid ms l)) (sym (append-nil ns)) is
-    ∙ ap ended (laid-both ns [] s (drop (t - f) (drop f ws)) sized ∙ append-nil (laid ns s))
+laid-front ns ws n e h =
+    ap₂ (λ ms l. ended (laid ms l)) (sym (append-nil ns)) (sym (take-append-drop n ws))
+    ∙ ap ended (laid-both ns [] (take n ws) (drop n ws) (omega (arith, length-take-le n ws h)) ∙ append-nil (laid ns (take n ws)))
 
--- of a table of `left` rows of w words, the next row's bytes, and the others
-module _ (row others rest : List ℕ) (w : ℕ) (e : rest ≡ row ++ others) (sized : length row ≡ w * 2) (some : 0 < w) where
-  abbrev both : length rest ≡ length row + length others
+-- the words of some of the pairs
+pub words_among : (ps : List (List ℕ)) (f n : ℕ) {ws : List ℕ} → pair_words ps ≡ ws → pair_words (take n (drop f ps)) ≡ take n (drop f ws)
+words_among ps f n e =
+    let g = from_be_bytes w16 in
+    sym (take-map g n (drop f ps)) ∙ ap (take n) (sym (drop-map g f ps) ∙ ap (drop f) e)
+
+-- of a table of `left` rows of w words, the next row's words, and the others
+module _ (all row others : List ℕ) (w : ℕ) (e : all ≡ row ++ others) (sized : length row ≡ w) (some : 0 < w) where
+  abbrev both : length all ≡ length row + length others
   both = ap length e ∙ length-append row others
 
-  some_left : (left : ℕ) → length rest ≡ left * (w * 2) → 0 < left
+  some_left : (left : ℕ) → length all ≡ left * w → 0 < left
   some_left zero h = absurd (omega (arith, both))
   some_left (suc k) h = omega arith
 
-  pub row_whole : (left : ℕ) → length rest ≡ left * (w * 2) → length others ≡ (left - 1) * (w * 2)
+  pub row_whole : (left : ℕ) → length all ≡ left * w → length others ≡ (left - 1) * w
   row_whole left h =
       let k = some_left left h in
       let is : left ≡ suc (left - 1) = omega arith in
-      let m = ap (λ n. n * (w * 2)) is ∙ suc-mul (left - 1) (w * 2) in
+      let m = ap (λ n. n * w) is ∙ suc-mul (left - 1) w in
       omega (arith, both)
 
-  pub row_turn : (left : ℕ) → length rest ≡ left * (w * 2)
-      → ended (laid (times left (part w)) (words_of rest)) ≡ part_text (words_of row) ++ ended (laid (times (left - 1) (part w)) (words_of others))
+  pub row_turn : (left : ℕ) → length all ≡ left * w
+      → ended (laid (times left (part w)) all) ≡ part_text row ++ ended (laid (times (left - 1) (part w)) others)
   unfolding times
   row_turn left h =
       let k = some_left left h in
       let is : left ≡ suc (left - 1) = omega arith in
-      let n : length (words_of row) ≡ w = omega (arith, length_words_of row) in
-      ap₂ (λ m ws. ended (laid (times m (part w)) ws)) is (ap words_of e ∙ words_append row others (omega arith))
-      ∙ ap ended (laid-both (part w) (times (left - 1) (part w)) (words_of row) (words_of others) (fields_in-part w ∙ sym n))
-      ∙ ended-append (laid (part w) (words_of row)) (laid (times (left - 1) (part w)) (words_of others))
-      ∙ ap (λ m. ended (laid (part m) (words_of row)) ++ ended (laid (times (left - 1) (part w)) (words_of others))) (sym n)
+      ap₂ (λ m ws. ended (laid (times m (part w)) ws)) is e
+      ∙ ap ended (laid-both (part w) (times (left - 1) (part w)) row others (fields_in-part w ∙ sym sized))
+      ∙ ended-append (laid (part w) row) (laid (times (left - 1) (part w)) others)
+      ∙ ap (λ m. ended (laid (part m) row) ++ ended (laid (times (left - 1) (part w)) others)) (sym sized)
 
-pub no_rows : (b : List ℕ) (w left : ℕ) → length b ≡ left * (w * 2) → length b < w * 2 → ended (laid (times left (part w)) (words_of b)) ≡ []
+pub no_rows : (ws : List ℕ) (w left : ℕ) → length ws ≡ left * w → length ws < w → ended (laid (times left (part w)) ws) ≡ []
 unfolding ended laid times
-no_rows b w zero h e = refl
-no_rows b w (suc k) h e = absurd (omega (arith, suc-mul k (w * 2)))
+no_rows ws w zero h e = refl
+no_rows ws w (suc k) h e = absurd (omega (arith, suc-mul k w))
 
 -- rows without words take no line
 pub no_width : (ws : List ℕ) (n left : ℕ) → n ≡ 0 → ended (laid (times left (part n)) ws) ≡ []
@@ -184,15 +183,15 @@ card_bytes b place h k =
     ∙ ap bytes_of (words-slice place (place + 40) b ∙ sym (part_slice place (place + 40) (words_of b) (omega arith)) ∙ ap (λ n. take n (drop place (words_of b))) e)
 
 -- a table's rows, told by its length: where it has no columns, their number is nothing
-rows_told : (rows n w : ℕ) → 0 < w → n ≡ rows * (w * 2) → n / (w * 2) ≡ rows
-rows_told rows n w h e = ap (λ k. k / (w * 2)) e ∙ mul-div_cancel rows (omega arith)
+rows_told : (rows n w : ℕ) → 0 < w → n ≡ rows * w → n / w ≡ rows
+rows_told rows n w h e = ap (λ k. k / w) e ∙ mul-div_cancel rows h
 
-pub rows_sized : (rows n w : ℕ) → n ≡ rows * (w * 2) → n ≡ n / (w * 2) * (w * 2)
-rows_sized rows n zero e = e ∙ mul-zero rows ∙ sym (mul-zero (n / (0 * 2)))
-rows_sized rows n (suc w) e = e ∙ ap (λ r. r * (suc w * 2)) (sym (rows_told rows n (suc w) (omega arith) e))
+pub rows_sized : (rows n w : ℕ) → n ≡ rows * w → n ≡ n / w * w
+rows_sized rows n zero e = e ∙ mul-zero rows ∙ sym (mul-zero (n / 0))
+rows_sized rows n (suc w) e = e ∙ ap (λ r. r * suc w) (sym (rows_told rows n (suc w) (omega arith) e))
 
-pub rows_text : (rows n w : ℕ) (ws : List ℕ) → n ≡ rows * (w * 2) → ended (laid (times (n / (w * 2)) (part w)) ws) ≡ ended (laid (times rows (part w)) ws)
-rows_text rows n zero ws e = no_width ws 0 (n / (0 * 2)) refl ∙ sym (no_width ws 0 rows refl)
+pub rows_text : (rows n w : ℕ) (ws : List ℕ) → n ≡ rows * w → ended (laid (times (n / w) (part w)) ws) ≡ ended (laid (times rows (part w)) ws)
+rows_text rows n zero ws e = no_width ws 0 (n / 0) refl ∙ sym (no_width ws 0 rows refl)
 rows_text rows n (suc w) ws e = ap (λ r. ended (laid (times r (part (suc w))) ws)) (rows_told rows n (suc w) (omega arith) e)
 
 -- a field that was put in, and the place behind it
@@ -206,32 +205,30 @@ shown_drop a b n ws h =
     let f : 2 + (n - 2) ≡ n = omega arith in
     ap (λ k. drop k (a ∷ (b ∷ drop 2 ws))) e ∙ drop-drop (n - 2) 2 ws ∙ ap (λ k. drop k ws) f
 
--- the words of a part of a record, and how many bytes they take
-pub span-words : (b : List ℕ) (f t : ℕ) {part : List ℕ} → t ≤ length (words_of b) → part ≡ slice (f * 2) (t * 2) b → (length part ≡ (t - f) * 2) × (words_of part ≡ slice f t (words_of b))
-span-words b f t h e = (omega (arith, ap length e, length-slice (f * 2) (t * 2) b (omega (arith, length_words_of b))), ap words_of e ∙ words-slice f t b)
-
 -- the first line of a Data record's prologue, n fields, and the others
 pub prologue_text : (lines n : ℕ) (ws : List ℕ) (lprol : ℕ) → 16 ≤ lprol → lprol ≤ length ws → n ≡ min lprol 20 → let shown = lines ∷ (1101 ∷ drop 2 ws) in
-    ended (laid (part lprol) shown) ≡ (fields_of (take n shown) ++ (10 ∷ [])) ++ part_text (slice n lprol ws)
+    ended (laid (part lprol) shown) ≡ (fields_of (take n shown) ++ (10 ∷ [])) ++ part_text (take (lprol - n) (drop n ws))
 prologue_text lines n ws lprol least most e = let shown = lines ∷ (1101 ∷ drop 2 ws) in
     let m = lprol - n in
-    let sized : length (slice n lprol ws) ≡ m = length-slice n lprol ws most in
+    let others = drop n ws in
+    let room : m ≤ length others = omega (arith, length-drop n ws) in
     line_of shown lprol (omega arith)
     ∙ ap (λ k. (fields_of (take k shown) ++ (10 ∷ [])) ++ ended (laid (part (lprol - k)) (drop k shown))) (sym e)
     ∙ ap (λ l. (fields_of (take n shown) ++ (10 ∷ [])) ++ ended (laid (part m) l)) (shown_drop lines 1101 n ws (omega arith))
-    ∙ ap (λ t. (fields_of (take n shown) ++ (10 ∷ [])) ++ t) (laid-part (part m) ws n lprol (omega (arith, fields_in-part m)) most)
-    ∙ ap (λ k. (fields_of (take n shown) ++ (10 ∷ [])) ++ ended (laid (part k) (slice n lprol ws))) (sym sized)
+    ∙ ap (λ t. (fields_of (take n shown) ++ (10 ∷ [])) ++ t) (laid-front (part m) others m (fields_in-part m) room)
+    ∙ ap (λ k. (fields_of (take n shown) ++ (10 ∷ [])) ++ ended (laid (part k) (take m others))) (sym (length-take-le m others room))
 
 module _ (ws : List ℕ) (c : Counts) where
   -- its tables: the 1-D codes and values, the 2-D codes and rows
   pub tables-text : (table end : ℕ) → table ≡ c.lprol + 2 * c.jpar → end ≡ table + (c.nrow + 1) * c.mpar → end ≤ length ws → ended (laid (tables c) (drop c.lprol ws))
-      ≡ ended (laid (times 2 (part c.jpar)) (slice c.lprol table ws)) ++ ended (laid (times (c.nrow + 1) (part c.mpar)) (slice table end ws))
+      ≡ ended (laid (times 2 (part c.jpar)) (take (table - c.lprol) (drop c.lprol ws))) ++ ended (laid (times (c.nrow + 1) (part c.mpar)) (take (end - table) (drop table ws)))
   tables-text table end e f h =
       let singles = times 2 (part c.jpar) in
       let rows = times (c.nrow + 1) (part c.mpar) in
       behind singles rows ws c.lprol (2 * c.jpar) (fields_in-times 2 c.jpar)
       ∙ ap (λ k. ended (laid singles (drop c.lprol ws)) ++ ended (laid rows (drop k ws))) (sym e)
-      ∙ ap₂ ◌++◌ (laid-part singles ws c.lprol table (omega (arith, fields_in-times 2 c.jpar)) (omega arith)) (laid-part rows ws table end (omega (arith, fields_in-times (c.nrow + 1) c.mpar)) h)
+      ∙ ap₂ ◌++◌ (laid-front singles (drop c.lprol ws) (table - c.lprol) (omega (arith, fields_in-times 2 c.jpar)) (omega (arith, length-drop c.lprol ws)))
+      (laid-front rows (drop table ws) (end - table) (omega (arith, fields_in-times (c.nrow + 1) c.mpar)) (omega (arith, length-drop table ws)))
 
   -- its text: the prologue, then the tables
   pub plan-text : (lines : ℕ) → 16 ≤ c.lprol → let shown = lines ∷ (1101 ∷ drop 2 ws) in

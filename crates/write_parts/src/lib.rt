@@ -1,65 +1,71 @@
 // Words laid out in lines of fields and in cards, written straight into the lent text.
 #![tactic(auto)]
 
-ghost use Rattle.std.specs.Prelude.{ℕ, [], ◌∷◌, ◌++◌, ◌≡◌, ◌+◌, ◌*◌, ◌%◌, ◌^◌, ◌<◌, ◌≤◌, length, take, drop};
+ghost use Rattle.std.specs.Prelude.{ℕ, [], ◌∷◌, ◌++◌, ◌≡◌, ◌+◌, ◌*◌, ◌≤◌, length, take, drop};
 ghost use Rattle.units.specs.Units.{words_of_cards};
 ghost use Rattle.words.specs.Words.{words_of};
 ghost use Rattle.words.specs.Writing.{Room, Put};
 ghost use Rattle.counts.specs.Counts.{words_needed};
 ghost use Rattle.line_plan.specs.Plan.{part, times, tables, plan};
-ghost use Rattle.write_parts.specs.Laid.{fields_of, laid, card_lines, ended, part_text};
+ghost use Rattle.write_parts.specs.Laid.{fields_of, laid, card_lines, ended, part_text, pair_words};
 
 use counts::Counts;
 use units::{Bytes, Lines, Words};
 
-// Writes the words of a part as fields.
-fn write_fields(part: &[u8], out: &mut [u8], at: Bytes) -> Bytes
-    requires { Room out.old at.0 (fields_of (words_of part.now)) }
-    ensures { Put out.old at.0 (fields_of (words_of part.now)) out.new result.0 }
+// The words of a record, as their two bytes.
+fn pairs(whole: &[u8]) -> &[[u8; 2]]
+    ensures { pair_words result.now ≡ words_of whole.now }
+{
+    whole.as_chunks().0
+}
+
+// Writes words as fields.
+fn write_fields(words: &[[u8; 2]], out: &mut [u8], at: Bytes) -> Bytes
+    requires { Room out.old at.0 (fields_of (pair_words words.now)) }
+    ensures { Put out.old at.0 (fields_of (pair_words words.now)) out.new result.0 }
 {
     let mut to = at.0;
-    let count = words::count(part).0;
-    for k in 0..count {
-        field::write_field(out, Bytes(to), words::word_at(part, Words(k)));
+    for word in words {
+        field::write_field(out, Bytes(to), u16::from_be_bytes(*word));
         to += 6;
     }
     Bytes(to)
 }
 
 // Writes them as a line.
-fn write_line(part: &[u8], out: &mut [u8], at: Bytes) -> Bytes
-    requires { Room out.old at.0 (fields_of (words_of part.now) ++ (10 ∷ [])) }
-    ensures { Put out.old at.0 (fields_of (words_of part.now) ++ (10 ∷ [])) out.new result.0 }
+fn write_line(words: &[[u8; 2]], out: &mut [u8], at: Bytes) -> Bytes
+    requires { Room out.old at.0 (fields_of (pair_words words.now) ++ (10 ∷ [])) }
+    ensures { Put out.old at.0 (fields_of (pair_words words.now) ++ (10 ∷ [])) out.new result.0 }
 {
-    let end = write_fields(part, out, at).0;
+    let end = write_fields(words, out, at).0;
     out[end] = b'\n';
     Bytes(end + 1)
 }
 
 // Writes them in lines of 20.
-fn write_part(part: &[u8], out: &mut [u8], at: Bytes) -> Bytes
-    requires { (length part.now % 2 ≡ 0) × Room out.old at.0 (part_text (words_of part.now)) }
-    ensures { Put out.old at.0 (part_text (words_of part.now)) out.new result.0 }
+fn write_part(words: &[[u8; 2]], out: &mut [u8], at: Bytes) -> Bytes
+    requires { Room out.old at.0 (part_text (pair_words words.now)) }
+    ensures { Put out.old at.0 (part_text (pair_words words.now)) out.new result.0 }
 {
     let mut to = at;
-    for line in part.chunks(units::bytes_of_words(Words(20)).0) {
+    for line in words.chunks(20) {
         to = write_line(line, out, to);
     }
     to
 }
 
 // Writes the rows of a table, `width` words each, each a part of its own.
-fn write_rows(table: &[u8], width: Words, out: &mut [u8], at: Bytes) -> Bytes
+fn write_rows(table: &[[u8; 2]], width: usize, out: &mut [u8], at: Bytes) -> Bytes
     ghost rows: { ℕ }
-    requires { (width.0 < 2 ^ 16) × (length table.now ≡ rows * (width.0 * 2)) × Room out.old at.0 (ended (laid (times rows (part width.0)) (words_of table.now))) }
-    ensures { Put out.old at.0 (ended (laid (times rows (part width.0)) (words_of table.now))) out.new result.0 }
+    requires { (length table.now ≡ rows * width) × Room out.old at.0 (ended (laid (times rows (part width)) (pair_words table.now))) }
+    ensures { Put out.old at.0 (ended (laid (times rows (part width)) (pair_words table.now))) out.new result.0 }
 {
     // A table without columns takes no line.
-    if width.0 == 0 {
+    if width == 0 {
         return at;
     }
     let mut to = at;
-    for row in table.chunks_exact(units::bytes_of_words(width).0) {
+    for row in table.chunks_exact(width) {
         to = write_part(row, out, to);
     }
     to
@@ -98,7 +104,7 @@ pub fn write_head(
     let third = second + 6;
     field::write_field(out, Bytes(first), lines);
     field::write_field(out, Bytes(second), kind);
-    write_line(words::span(whole, Words(2), fields), out, Bytes(third))
+    write_line(&pairs(whole)[2..fields.0], out, Bytes(third))
 }
 
 // Writes the prologue of a Data record, `lprol` words in lines of 20.
@@ -108,7 +114,7 @@ fn write_prologue(whole: &[u8], lines: u16, lprol: Words, out: &mut [u8], at: By
 {
     let first = line_plan::on_line(lprol);
     let to = write_head(whole, lines, 1101, first, out, at);
-    write_part(words::span(whole, first, lprol), out, to)
+    write_part(&pairs(whole)[first.0..lprol.0], out, to)
 }
 
 // Writes the tables of a Data record: the 1-D codes and values, the 2-D codes and rows.
@@ -122,14 +128,9 @@ fn write_tables(whole: &[u8], c: Counts, out: &mut [u8], at: Bytes) -> Bytes
     let rows = c.nrow as usize + 1;
     let table = codes + 2 * single;
     let end = table + rows * across;
-    let singles = words::span(whole, Words(codes), Words(table));
-    let to = write_rows(singles, Words(single), out, at);
-    write_rows(
-        words::span(whole, Words(table), Words(end)),
-        Words(across),
-        out,
-        to,
-    )
+    let words = pairs(whole);
+    let to = write_rows(&words[codes..table], single, out, at);
+    write_rows(&words[table..end], across, out, to)
 }
 
 // Writes the lines that the counts plan: the prologue, then the tables.

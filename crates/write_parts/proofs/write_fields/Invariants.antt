@@ -1,8 +1,7 @@
-use Rattle.write_parts.specs.Laid.{fields_of}
+use Rattle.write_parts.specs.Laid.{fields_of, pair_words}
 use Rattle.words.proofs.Writing.{Going}
-use Rattle.words.specs.Words.{words_of}
 use lib.ListN.{drop}
 use Rattle.write_parts.proofs.write_fields.Given as goal
 
-abbrev pub invariant-loop-k : goal.invariant-loop-k
-invariant-loop-k l = Going l.initial.out l.initial.to (fields_of (words_of l.part)) l.out l.to (fields_of (drop l.k (words_of l.part)))
+abbrev pub invariant-loop-word : goal.invariant-loop-word
+invariant-loop-word l = Going l.initial.out l.initial.to (fields_of (pair_words l.words)) l.out l.to (fields_of (drop l.word-index (pair_words l.words)))

@@ -1,17 +1,15 @@
-use Rattle.write_parts.proofs.Turns.{head_turn, field_put}
-use Rattle.write_parts.specs.Laid.{fields_of}
+use Rattle.write_parts.proofs.Turns.{head_turn, field_put, words_among}
+use Rattle.write_parts.specs.Laid.{fields_of, pair_words}
 use Rattle.field.proofs.Written.{length_field_of}
 use Rattle.field.specs.Writing.{field_of}
 use Rattle.words.proofs.Writing.{Going, start, fits, on, done}
 use Rattle.words.specs.Words.{words_of}
-use Rattle.words.proofs.Laws.{words-slice}
-use Rattle.words.proofs.Lists.{part_slice}
 use lib.ListN.{take, drop}
-use lib.Seq.{sets, slice}
+use lib.Seq.{sets}
 use native.Mathlib.Omega.{arith}
 use mathlib.Core.List.{List, [], ◌∷◌, ◌++◌, append-nil}
 use mathlib.Core.Path.{◌≡◌, refl, sym, ap, ◌∙◌}
-use Prim.Native.Nat.{ℕ, ◌+◌, ◌-◌, ◌*◌, ◌≤◌}
+use Prim.Native.Nat.{ℕ, ◌+◌, ◌-◌, ◌≤◌}
 use Rattle.write_parts.proofs.write_head.Goals as goal
 
 -- the words behind the first two, and the whole line
@@ -34,9 +32,9 @@ module _ (o : List ℕ) (at lines kind n : ℕ) (ws : List ℕ) (least : 2 ≤ n
       left-3 : Line-left o at lines kind n ws out' (at + 6 + 6) (words-behind ws n)
       left-3 = on left-2 (field_of kind) _ refl (field_put _ _ _ f)
 
--- they are those of the part that is passed on
-behind : (b : List ℕ) (n : ℕ) {part : List ℕ} → 2 ≤ n → part ≡ slice (2 * 2) (n * 2) b → fields_of (words_of part) ++ (10 ∷ []) ≡ words-behind (words_of b) n
-behind b n least e = ap (λ l. fields_of l ++ (10 ∷ [])) (ap words_of e ∙ words-slice 2 n b ∙ sym (part_slice 2 n (words_of b) least))
+-- they are those of the pairs that are passed on
+behind : (ps : List (List ℕ)) (n : ℕ) {ws : List ℕ} → pair_words ps ≡ ws → words-behind ws n ≡ (fields_of (pair_words (take (n - 2) (drop 2 ps))) ++ (10 ∷ [])) ++ []
+behind ps n e = ap (λ l. fields_of l ++ (10 ∷ [])) (sym (words_among ps 2 (n - 2) e)) ∙ sym (append-nil _)
 
 pub write_field-requires : goal.write_field-requires
 write_field-requires c = let a = c.args in let ws = words_of a.whole.now in let p = c.requires in
@@ -46,15 +44,12 @@ pub write_field-requires-2 : goal.write_field-requires-2
 write_field-requires-2 c = let a = c.args in let ws = words_of a.whole.now in let p = c.requires in
     omega (arith, fits (left-2 a.out.now a.at.0 a.lines a.kind a.fields.0 ws p.0 c.write_field.ensures) (field_of a.kind) _ refl p.2, length_field_of a.kind)
 
-pub span-requires : goal.span-requires
-span-requires c = (c.requires.0, c.requires.1)
-
 pub write_line-requires : goal.write_line-requires
 write_line-requires c = let a = c.args in let ws = words_of a.whole.now in let p = c.requires in
     let l = left-3 a.out.now a.at.0 a.lines a.kind a.fields.0 ws p.0 c.write_field.ensures c.write_field-2.ensures in
-    fits l _ [] (sym (behind a.whole.now a.fields.0 p.0 c.span.ensures) ∙ sym (append-nil _)) p.2
+    fits l _ [] (behind c.pairs.result.now a.fields.0 c.pairs.ensures) p.2
 
 pub returns : goal.returns
 returns c = let a = c.args in let ws = words_of a.whole.now in let p = c.requires in
     let l = left-3 a.out.now a.at.0 a.lines a.kind a.fields.0 ws p.0 c.write_field.ensures c.write_field-2.ensures in
-    done (on l _ [] (sym (behind a.whole.now a.fields.0 p.0 c.span.ensures) ∙ sym (append-nil _)) c.write_line.ensures) refl
+    done (on l _ [] (behind c.pairs.result.now a.fields.0 c.pairs.ensures) c.write_line.ensures) refl

@@ -1,6 +1,5 @@
-use Rattle.write_parts.specs.Laid.{fields_of}
+use Rattle.write_parts.specs.Laid.{fields_of, pair_words}
 use Rattle.words.proofs.Writing.{Going, start, fits, on, byte_put, done}
-use Rattle.words.specs.Words.{words_of}
 use Rattle.words.specs.Writing.{Room, Put}
 use lib.ListN.{length}
 use native.Mathlib.Omega.{arith}
@@ -19,7 +18,7 @@ module _ {o : List ℕ} {at : ℕ} {fields out : List ℕ} {to : ℕ} (p : Put o
 
 pub write_fields-end-requires : goal.write_fields-end-requires
 write_fields-end-requires c = let a = c.args in
-    fits {o = a.out.now} start (fields_of (words_of a.part.now)) (10 ∷ []) refl c.requires
+    fits {o = a.out.now} start (fields_of (pair_words a.words.now)) (10 ∷ []) refl c.requires
 
 pub bounds-out-end : goal.bounds-out-end
 bounds-out-end c = omega (arith, room c.write_fields-end.ensures c.requires)

@@ -1,17 +1,19 @@
-use Rattle.write_parts.proofs.Turns.{tables-text, span-words, rows_sized, rows_text}
-use Rattle.write_parts.specs.Laid.{laid, ended}
+use Rattle.write_parts.proofs.Turns.{tables-text, words_among, rows_sized, rows_text}
+use Rattle.write_parts.specs.Laid.{laid, ended, pair_words}
 use Rattle.line_plan.specs.Plan.{part, times, tables}
 use Rattle.words.proofs.Writing.{first_fits, second_fits, both-put}
 use Rattle.words.specs.Words.{words_of}
 use Rattle.counts.specs.declared.Counts.{Counts}
 use Rattle.counts.specs.Counts.{words_needed}
-use lib.ListN.{length, drop}
-use lib.Seq.{slice}
-use native.Mathlib.Nat.{mul_comm, mul_assoc}
+use Rattle.std.proofs.lemmas.List.{length-map}
+use Rattle.std.specs.Int.{w16, from_be_bytes}
+use lib.ListN.{length, take, drop, length-drop}
+use lib.Seq.{length-take-le}
+use native.Mathlib.Nat.{mul_comm}
 use native.Mathlib.Omega.{arith}
 use mathlib.Core.List.{List, ◌++◌}
-use mathlib.Core.Path.{◌≡◌, refl, sym, ap₂, ◌∙◌}
-use Prim.Native.Nat.{ℕ, ◌+◌, ◌*◌, ◌/◌, ◌≤◌}
+use mathlib.Core.Path.{◌≡◌, refl, sym, ap, ap₂, ◌∙◌}
+use Prim.Native.Nat.{ℕ, ◌+◌, ◌-◌, ◌*◌, ◌/◌, ◌≤◌}
 use Rattle.write_parts.proofs.write_tables.Goals as goal
 
 -- where the 1-D tables end and the 2-D tables begin, and where those end
@@ -21,42 +23,49 @@ middle c = c.lprol + 2 * c.jpar
 abbrev end : Counts → ℕ
 end c = middle c + (c.nrow + 1) * c.mpar
 
-module _ (b : List ℕ) (c : Counts) (h : words_needed c ≤ length (words_of b)) where
-  fit : end c ≤ length (words_of b)
-  fit = omega (arith, mul_comm c.mpar (c.nrow + 1))
+module _ (ws : List ℕ) (c : Counts) (h : words_needed c ≤ length ws) (ps : List (List ℕ)) (is : pair_words ps ≡ ws) where
+  -- the pairs of the 1-D tables, and of the 2-D tables
+  abbrev singles : List (List ℕ)
+  singles = take (middle c - c.lprol) (drop c.lprol ps)
 
-  module _ {singles rows : List ℕ} (s : singles ≡ slice (c.lprol * 2) (middle c * 2) b) (r : rows ≡ slice (middle c * 2) (end c * 2) b) where
-    singles-sized : length singles ≡ 2 * (c.jpar * 2)
-    singles-sized = omega (arith, (span-words b c.lprol (middle c) (omega (arith, fit)) s).0)
+  abbrev rows : List (List ℕ)
+  rows = take (end c - middle c) (drop (middle c) ps)
 
-    rows-sized : length rows ≡ (c.nrow + 1) * (c.mpar * 2)
-    rows-sized = omega (arith, (span-words b (middle c) (end c) fit r).0, mul_assoc (c.nrow + 1) c.mpar 2)
+  fit : end c ≤ length ps
+  fit = omega (arith, mul_comm c.mpar (c.nrow + 1), length-map ps (from_be_bytes w16), ap length is)
 
-    pieces : ended (laid (tables c) (drop c.lprol (words_of b)))
-        ≡ ended (laid (times (length singles / (c.jpar * 2)) (part c.jpar)) (words_of singles)) ++ ended (laid (times (length rows / (c.mpar * 2)) (part c.mpar)) (words_of rows))
-    pieces =
-        tables-text (words_of b) c (middle c) (end c) refl refl fit
-        ∙ ap₂ (λ xs ys. ended (laid (times 2 (part c.jpar)) xs) ++ ended (laid (times (c.nrow + 1) (part c.mpar)) ys)) (sym (span-words b c.lprol (middle c) (omega (arith, fit)) s).1) (sym (span-words b (middle c) (end c) fit r).1)
-        ∙ ap₂ ◌++◌ (sym (rows_text 2 _ c.jpar (words_of singles) singles-sized)) (sym (rows_text (c.nrow + 1) _ c.mpar (words_of rows) rows-sized))
+  singles-sized : length singles ≡ 2 * c.jpar
+  singles-sized = omega (arith, length-take-le (middle c - c.lprol) (drop c.lprol ps) (omega (arith, fit, length-drop c.lprol ps)))
 
-    singles-told : length singles ≡ length singles / (c.jpar * 2) * (c.jpar * 2)
-    singles-told = rows_sized 2 _ c.jpar singles-sized
+  rows-sized : length rows ≡ (c.nrow + 1) * c.mpar
+  rows-sized = omega (arith, length-take-le (end c - middle c) (drop (middle c) ps) (omega (arith, fit, length-drop (middle c) ps)))
 
-    rows-told : length rows ≡ length rows / (c.mpar * 2) * (c.mpar * 2)
-    rows-told = rows_sized (c.nrow + 1) _ c.mpar rows-sized
+  singles-told : length singles ≡ length singles / c.jpar * c.jpar
+  singles-told = rows_sized 2 _ c.jpar singles-sized
+
+  rows-told : length rows ≡ length rows / c.mpar * c.mpar
+  rows-told = rows_sized (c.nrow + 1) _ c.mpar rows-sized
+
+  pieces : ended (laid (tables c) (drop c.lprol ws))
+      ≡ ended (laid (times (length singles / c.jpar) (part c.jpar)) (pair_words singles)) ++ ended (laid (times (length rows / c.mpar) (part c.mpar)) (pair_words rows))
+  pieces =
+      tables-text ws c (middle c) (end c) refl refl (omega (arith, fit, length-map ps (from_be_bytes w16), ap length is))
+      ∙ ap₂ (λ xs ys. ended (laid (times 2 (part c.jpar)) xs) ++ ended (laid (times (c.nrow + 1) (part c.mpar)) ys)) (sym (words_among ps c.lprol (middle c - c.lprol) is)) (sym (words_among ps (middle c) (end c - middle c) is))
+      ∙ ap₂ ◌++◌ (sym (rows_text 2 _ c.jpar (pair_words singles) singles-sized)) (sym (rows_text (c.nrow + 1) _ c.mpar (pair_words rows) rows-sized))
 
 -- the 1-D parts, and the 2-D rows
 pub write_rows-to-requires : goal.write_rows-to-requires
 write_rows-to-requires c = let a = c.args in
-    let b = a.whole.now in
-    let rows = slice (middle a.c * 2) (end a.c * 2) b in
-    (omega arith, singles-told b a.c c.requires.0 {rows = rows} c.span-singles.ensures refl, first_fits a.out.now _ _ _ (pieces b a.c c.requires.0 {rows = rows} c.span-singles.ensures refl) c.requires.1)
+    let ps = c.pairs-words.result.now in
+    let ws = words_of a.whole.now in
+    (singles-told ws a.c c.requires.0 ps c.pairs-words.ensures, first_fits a.out.now _ _ _ (pieces ws a.c c.requires.0 ps c.pairs-words.ensures) c.requires.1)
 
 pub write_rows-requires : goal.write_rows-requires
 write_rows-requires c = let a = c.args in
-    let b = a.whole.now in
-    (omega arith, rows-told b a.c c.requires.0 c.span-singles.ensures c.span.ensures, second_fits _ _ _ _ (pieces b a.c c.requires.0 c.span-singles.ensures c.span.ensures) c.requires.1 c.write_rows-to.ensures)
+    let ps = c.pairs-words.result.now in
+    let ws = words_of a.whole.now in
+    (rows-told ws a.c c.requires.0 ps c.pairs-words.ensures, second_fits _ _ _ _ (pieces ws a.c c.requires.0 ps c.pairs-words.ensures) c.requires.1 c.write_rows-to.ensures)
 
 pub returns : goal.returns
 returns c = let a = c.args in
-    both-put _ _ _ _ (pieces a.whole.now a.c c.requires.0 c.span-singles.ensures c.span.ensures) c.requires.1 c.write_rows-to.ensures c.write_rows.ensures
+    both-put _ _ _ _ (pieces (words_of a.whole.now) a.c c.requires.0 c.pairs-words.result.now c.pairs-words.ensures) c.requires.1 c.write_rows-to.ensures c.write_rows.ensures
