@@ -8,47 +8,38 @@ use borrow.Author.Tests.{ne_eqb}
 use Prim.Native.Nat.{ℕ, ◌≤◌}
 use lib.Dec.{eqb}
 use lib.ListN.{get_or}
-use Rattle.std.specs.Prelude.{if◌then◌else◌}
+use Rattle.std.specs.Prelude.{if◌then◌else◌, Result, Ok, Err}
 use Rattle.units.specs.declared.Answer.{Answer}
 use Rattle.units.specs.declared.Lines.{Lines}
 use Rattle.units.specs.declared.Bytes.{Bytes}
+use Rattle.units.specs.declared.Unwritten.{Unwritten}
+use Rattle.units.specs.declared.Unwritten.TheVariants.{Refused, Short}
 use Rattle.units.specs.Answers.{Verdict, passed, refused, answered}
 use Rattle.words.specs.Outcomes.{Written, leaves}
 use Rattle.write_lines.specs.Text.{to_lines}
 use Rattle.read_text.specs.Block.{write_block}
 use Rattle.sheet.specs.Sheets.{version1, started}
-use Rattle.record.specs.declared.Fault.TheVariants.{Short, Kind, Total, NotZero, Card, Counts}
-use Rattle.block.specs.declared.Judged.{Judged}
-use Rattle.block.specs.declared.Judged.TheVariants.{Records, Refused}
+use Rattle.record.specs.declared.Fault.TheVariants.{Kind, Total, NotZero, Card, Counts}
+use Rattle.record.specs.declared.Fault.TheVariants as fault
 use Rattle.block.specs.declared.Refusal.{Refusal}
 use Rattle.block.specs.declared.Refusal.TheVariants.{Size, WordCount, Checksum, Record}
 use Rattle.block.specs.Cases.{BlockRow, refusal_of, judged_of}
-use Rattle.write_lines.specs.declared.Lined.{Lined}
-use Rattle.write_lines.specs.declared.Lined.TheVariants.{Text}
-use Rattle.write_lines.specs.declared.Lined.TheVariants as lines
 use Rattle.write_lines.specs.Cases.{lined_of}
 use Rattle.read_columns.specs.declared.Flaw.{Flaw}
 use Rattle.read_columns.specs.declared.Flaw.TheVariants.{Byte, NoRecord, Field, Count, Ends, NotBlank, Range, Much, Long}
 use Rattle.read_columns.specs.declared.Flaw.TheVariants as columns
-use Rattle.read_text.specs.declared.Judged as looked
-use Rattle.read_text.specs.declared.Judged.TheVariants as text
-use Rattle.read_text.specs.declared.Built.{Built}
-use Rattle.read_text.specs.declared.Built.TheVariants.{Block}
-use Rattle.read_text.specs.declared.Built.TheVariants as built
+use Rattle.read_columns.specs.Cases.{flaw_of}
 use Rattle.read_text.specs.Cases.{built_of}
 use Rattle.read_text.specs.Cases as looking
-use Rattle.sheet.specs.declared.Opened.{Opened}
-use Rattle.sheet.specs.declared.Opened.TheVariants as sheet
+use Rattle.sheet.specs.declared.Broken.{Broken}
 use Rattle.sheet.specs.Cases.{opened_of}
-use Rattle.amending.specs.declared.Amended.{Amended}
-use Rattle.amending.specs.declared.Amended.TheVariants as amending
+use Rattle.amending.specs.declared.Objection.{Objection}
 use Rattle.amending.specs.declared.Objection.TheVariants as rows
 use Rattle.block_value.specs.declared.Obstacle.TheVariants as value
 use Rattle.amending.specs.Cases.{amended_of}
 use Rattle.amending.specs.Amending.{Outcome, buffers, amend, undo}
+use Rattle.block_slice.specs.declared.SliceRefusal.{SliceRefusal}
 use Rattle.block_slice.specs.declared.SliceRefusal.TheVariants as slice
-use Rattle.repacking.specs.declared.Repacked.{Repacked}
-use Rattle.repacking.specs.declared.Repacked.TheVariants as repacked
 use Rattle.repacking.specs.Cases.{repacked_of}
 use Rattle.repacking.specs.Repacking.{repack}
 use Rattle.cedar.specs.Calls.{Returned, returned, converted, ReturnedBoth, returned_both, amended_both}
@@ -62,7 +53,7 @@ refusal_case r =
     if eqb r.n 1 then Size
     else if eqb r.n 2 then WordCount
     else if eqb r.n 3 then Checksum r.c
-    else if eqb r.n 4 then Record (Short r.a)
+    else if eqb r.n 4 then Record (fault.Short r.a)
     else if eqb r.n 5 then Record (Kind r.a)
     else if eqb r.n 6 then Record (Total r.a)
     else if eqb r.n 7 then Record (NotZero r.a r.b)
@@ -74,7 +65,7 @@ unfolding refusal_case
 refusal_back Size = refl
 refusal_back WordCount = refl
 refusal_back (Checksum bits) = refl
-refusal_back (Record (Short k)) = refl
+refusal_back (Record (fault.Short k)) = refl
 refusal_back (Record (Kind k)) = refl
 refusal_back (Record (Total k)) = refl
 refusal_back (Record (NotZero k w)) = refl
@@ -86,7 +77,7 @@ refusal_low : (r : Refusal) → BlockRow (refusal_of r).n
 refusal_low Size = omega arith
 refusal_low WordCount = omega arith
 refusal_low (Checksum bits) = omega arith
-refusal_low (Record (Short k)) = omega arith
+refusal_low (Record (fault.Short k)) = omega arith
 refusal_low (Record (Kind k)) = omega arith
 refusal_low (Record (Total k)) = omega arith
 refusal_low (Record (NotZero k w)) = omega arith
@@ -101,129 +92,142 @@ other r m h = ne_eqb (refusal_of r).n m (λ e. by h e)
     by (inl z) e = omega (arith, (refusal_low r).0)
     by (inr k) e = omega (arith, (refusal_low r).1)
 
-judged_case : Verdict ℕ → Judged
-judged_case (passed k) = Records k
-judged_case (refused r) = Refused (refusal_case r)
+judged_case : Verdict ℕ → Result ℕ Refusal
+judged_case (passed k) = Ok k
+judged_case (refused r) = Err (refusal_case r)
 
-judged_back : (j : Judged) → judged_case (judged_of j) ≡ j
+judged_back : (j : Result ℕ Refusal) → judged_case (judged_of j) ≡ j
 unfolding judged_case
-judged_back (Records k) = refl
-judged_back (Refused r) = ap Refused (refusal_back r)
+judged_back (Ok k) = refl
+judged_back (Err r) = ap Err (refusal_back r)
 
 -- the case that the numbers of block to lines tell
-lined_case : Answer → Lined
-lined_case r = if eqb r.n 0 then Text (record { 0 = r.a }) else if eqb r.n 29 then lines.Short (record { 0 = r.a }) else lines.Refused (refusal_case r)
+lined_case : Answer → Result Bytes (Unwritten Refusal)
+lined_case r = if eqb r.n 0 then Ok (record { 0 = r.a }) else if eqb r.n 29 then Err (Short (record { 0 = r.a })) else Err (Refused (refusal_case r))
 
-lined_back : (l : Lined) → lined_case (lined_of l) ≡ l
+lined_back : (l : Result Bytes (Unwritten Refusal)) → lined_case (lined_of l) ≡ l
 unfolding lined_case
-lined_back (Text size) = refl
-lined_back (lines.Short size) = refl
-lined_back (lines.Refused r) = simp (other r 0 (inl refl), other r 29 (inr (omega arith))) (ap lines.Refused (refusal_back r))
+lined_back (Ok size) = refl
+lined_back (Err (Short size)) = refl
+lined_back (Err (Refused r)) = simp (other r 0 (inl refl), other r 29 (inr (omega arith))) (ap (λ b. Err (Refused b)) (refusal_back r))
 
--- the case that the numbers of writing a block tell
-built_case : Answer → Built
-built_case r =
+-- the case that a text's refusal's numbers tell
+flaw_case : Answer → Flaw
+flaw_case r =
     let line : Lines = record { 0 = r.a } in
     let column : Bytes = record { 0 = r.b } in
-    if eqb r.n 0 then Block (record { 0 = r.a })
-    else if eqb r.n 20 then built.Refused (Byte line column)
-    else if eqb r.n 21 then built.Refused NoRecord
-    else if eqb r.n 22 then built.Refused (Field line column)
-    else if eqb r.n 23 then built.Refused (columns.Kind line)
-    else if eqb r.n 24 then built.Refused (Count line)
-    else if eqb r.n 25 then built.Refused (Ends line)
-    else if eqb r.n 26 then built.Refused (NotBlank line column)
-    else if eqb r.n 27 then built.Refused (Range line column)
-    else if eqb r.n 28 then built.Refused (Much line)
-    else if eqb r.n 29 then built.Short (record { 0 = r.a })
-    else built.Refused Long
+    if eqb r.n 20 then Byte line column
+    else if eqb r.n 21 then NoRecord
+    else if eqb r.n 22 then Field line column
+    else if eqb r.n 23 then columns.Kind line
+    else if eqb r.n 24 then Count line
+    else if eqb r.n 25 then Ends line
+    else if eqb r.n 26 then NotBlank line column
+    else if eqb r.n 27 then Range line column
+    else if eqb r.n 28 then Much line
+    else Long
 
-built_back : (b : Built) → built_case (built_of b) ≡ b
+flaw_back : (f : Flaw) → flaw_case (flaw_of f) ≡ f
+unfolding flaw_case
+flaw_back (Byte line column) = refl
+flaw_back NoRecord = refl
+flaw_back (Field line column) = refl
+flaw_back (columns.Kind line) = refl
+flaw_back (Count line) = refl
+flaw_back (Ends line) = refl
+flaw_back (NotBlank line column) = refl
+flaw_back (Range line column) = refl
+flaw_back (Much line) = refl
+flaw_back Long = refl
+
+-- its number is no success, and no buffer that is too short
+flaw_other : (f : Flaw) → (eqb (flaw_of f).n 0 ≡ false) × (eqb (flaw_of f).n 29 ≡ false)
+flaw_other (Byte line column) = (refl, refl)
+flaw_other NoRecord = (refl, refl)
+flaw_other (Field line column) = (refl, refl)
+flaw_other (columns.Kind line) = (refl, refl)
+flaw_other (Count line) = (refl, refl)
+flaw_other (Ends line) = (refl, refl)
+flaw_other (NotBlank line column) = (refl, refl)
+flaw_other (Range line column) = (refl, refl)
+flaw_other (Much line) = (refl, refl)
+flaw_other Long = (refl, refl)
+
+-- the case that the numbers of writing a block tell
+built_case : Answer → Result Bytes (Unwritten Flaw)
+built_case r = if eqb r.n 0 then Ok (record { 0 = r.a }) else if eqb r.n 29 then Err (Short (record { 0 = r.a })) else Err (Refused (flaw_case r))
+
+built_back : (b : Result Bytes (Unwritten Flaw)) → built_case (built_of b) ≡ b
 unfolding built_case
-built_back (Block size) = refl
-built_back (built.Short size) = refl
-built_back (built.Refused (Byte line column)) = refl
-built_back (built.Refused NoRecord) = refl
-built_back (built.Refused (Field line column)) = refl
-built_back (built.Refused (columns.Kind line)) = refl
-built_back (built.Refused (Count line)) = refl
-built_back (built.Refused (Ends line)) = refl
-built_back (built.Refused (NotBlank line column)) = refl
-built_back (built.Refused (Range line column)) = refl
-built_back (built.Refused (Much line)) = refl
-built_back (built.Refused Long) = refl
-
--- the refusal in it
-flaw_in : Built → Flaw
-flaw_in (Block size) = Long
-flaw_in (built.Refused f) = f
-flaw_in (built.Short size) = Long
+built_back (Ok size) = refl
+built_back (Err (Short size)) = refl
+built_back (Err (Refused f)) = let o = flaw_other f in simp (o.0, o.1) (ap (λ x. Err (Refused x)) (flaw_back f))
 
 -- the case that a size or a refusal tells
-size_case : Verdict ℕ → looked.Judged
-size_case (passed n) = text.Size (record { 0 = n })
-size_case (refused r) = text.Flawed (flaw_in (built_case r))
+size_case : Verdict ℕ → Result Bytes Flaw
+size_case (passed n) = Ok (record { 0 = n })
+size_case (refused r) = Err (flaw_case r)
 
-size_back : (r : looked.Judged) → size_case (looking.judged_of r) ≡ r
-unfolding size_case flaw_in
-size_back (text.Size n) = refl
-size_back (text.Flawed f) = ap (λ x. text.Flawed (flaw_in x)) (built_back (built.Refused f))
+size_back : (r : Result Bytes Flaw) → size_case (looking.judged_of r) ≡ r
+unfolding size_case
+size_back (Ok n) = refl
+size_back (Err f) = ap Err (flaw_back f)
 
 -- the case that the numbers of a sheet tell
-opened_case : Answer → Opened
-opened_case r = if eqb r.n 0 then sheet.Standing r.a else sheet.Broken
+opened_case : Answer → Result ℕ Broken
+opened_case r = if eqb r.n 0 then Ok r.a else Err record {}
 
-opened_back : (o : Opened) → opened_case (answered (opened_of o)) ≡ o
+opened_back : (o : Result ℕ Broken) → opened_case (answered (opened_of o)) ≡ o
 unfolding opened_case
-opened_back (sheet.Standing count) = refl
-opened_back sheet.Broken = refl
+opened_back (Ok count) = refl
+opened_back (Err b) = refl
 
 -- the case that the numbers of amend and undo tell
-amended_case : Answer → Amended
+amended_case : Answer → Result ℕ Objection
 amended_case r =
-    if eqb r.n 0 then amending.Standing r.a
-    else if eqb r.n 40 then amending.Refused rows.Broken
-    else if eqb r.n 41 then amending.Refused (rows.Value value.NoSuchRecord)
-    else if eqb r.n 42 then amending.Refused (rows.Value value.NoValue)
-    else if eqb r.n 43 then amending.Refused (rows.Value (value.Differs r.a))
-    else if eqb r.n 44 then amending.Refused rows.Full
-    else if eqb r.n 45 then amending.Refused rows.Empty
-    else if eqb r.n 46 then amending.Refused rows.NotStanding
-    else amending.Refused (rows.Block (refusal_case r))
+    if eqb r.n 0 then Ok r.a
+    else if eqb r.n 40 then Err rows.Broken
+    else if eqb r.n 41 then Err (rows.Value value.NoSuchRecord)
+    else if eqb r.n 42 then Err (rows.Value value.NoValue)
+    else if eqb r.n 43 then Err (rows.Value (value.Differs r.a))
+    else if eqb r.n 44 then Err rows.Full
+    else if eqb r.n 45 then Err rows.Empty
+    else if eqb r.n 46 then Err rows.NotStanding
+    else Err (rows.Block (refusal_case r))
 
-amended_back : (a : Amended) → amended_case (answered (amended_of a)) ≡ a
+amended_back : (a : Result ℕ Objection) → amended_case (answered (amended_of a)) ≡ a
 unfolding amended_case
-amended_back (amending.Standing count) = refl
-amended_back (amending.Refused rows.Broken) = refl
-amended_back (amending.Refused (rows.Value value.NoSuchRecord)) = refl
-amended_back (amending.Refused (rows.Value value.NoValue)) = refl
-amended_back (amending.Refused (rows.Value (value.Differs found))) = refl
-amended_back (amending.Refused rows.Full) = refl
-amended_back (amending.Refused rows.Empty) = refl
-amended_back (amending.Refused rows.NotStanding) = refl
-amended_back (amending.Refused (rows.Block r)) =
+amended_back (Ok count) = refl
+amended_back (Err rows.Broken) = refl
+amended_back (Err (rows.Value value.NoSuchRecord)) = refl
+amended_back (Err (rows.Value value.NoValue)) = refl
+amended_back (Err (rows.Value (value.Differs found))) = refl
+amended_back (Err rows.Full) = refl
+amended_back (Err rows.Empty) = refl
+amended_back (Err rows.NotStanding) = refl
+amended_back (Err (rows.Block r)) =
     let far : (m : ℕ) → 10 ≤ m → eqb (refusal_of r).n m ≡ false = λ m h. other r m (inr h) in
     simp (other r 0 (inl refl), far 40 (omega arith), far 41 (omega arith), far 42 (omega arith), far 43 (omega arith), far 44 (omega arith), far 45 (omega arith), far 46 (omega arith))
-    (ap (λ b. amending.Refused (rows.Block b)) (refusal_back r))
+    (ap (λ b. Err (rows.Block b)) (refusal_back r))
 
 -- the case that the numbers of repacking tell
-repacked_case : Answer → Repacked
+repacked_case : Answer → Result Bytes (Unwritten SliceRefusal)
 repacked_case r =
-    if eqb r.n 0 then repacked.Blocks (record { 0 = r.a })
-    else if eqb r.n 50 then repacked.Short (record { 0 = r.a })
-    else if eqb r.n 51 then repacked.Refused (slice.Cut r.a)
-    else if eqb r.n 52 then repacked.Refused slice.Long
-    else repacked.Refused (slice.Block (refusal_case r))
+    if eqb r.n 0 then Ok (record { 0 = r.a })
+    else if eqb r.n 50 then Err (Short (record { 0 = r.a }))
+    else if eqb r.n 51 then Err (Refused (slice.Cut r.a))
+    else if eqb r.n 52 then Err (Refused slice.Long)
+    else Err (Refused (slice.Block (refusal_case r)))
 
-repacked_back : (a : Repacked) → repacked_case (repacked_of a) ≡ a
+repacked_back : (a : Result Bytes (Unwritten SliceRefusal)) → repacked_case (repacked_of a) ≡ a
 unfolding repacked_case
-repacked_back (repacked.Blocks size) = refl
-repacked_back (repacked.Short size) = refl
-repacked_back (repacked.Refused (slice.Cut number)) = refl
-repacked_back (repacked.Refused slice.Long) = refl
-repacked_back (repacked.Refused (slice.Block r)) =
+repacked_back (Ok size) = refl
+repacked_back (Err (Short size)) = refl
+repacked_back (Err (Refused (slice.Cut number))) = refl
+repacked_back (Err (Refused slice.Long)) = refl
+repacked_back (Err (Refused (slice.Block r))) =
     simp (other r 0 (inl refl), other r 50 (inr (omega arith)), other r 51 (inr (omega arith)), other r 52 (inr (omega arith)))
-    (ap (λ b. repacked.Refused (slice.Block b)) (refusal_back r))
+    (ap (λ b. Err (Refused (slice.Block b))) (refusal_back r))
 
 -- ---- what is fixed
 
@@ -283,7 +287,7 @@ pub open_agrees : OpenAgrees
 open_agrees sheet r s p q = by_case (λ o. answered (opened_of o)) opened_case opened_back r s (ap answered (same p q))
 
 pub start_agrees : StartAgrees
-start_agrees sheet = written_agree (λ (o : Opened). answered (opened_of o)) opened_case opened_back (started version1 sheet)
+start_agrees sheet = written_agree (λ (o : Result ℕ Broken). answered (opened_of o)) opened_case opened_back (started version1 sheet)
 
 -- with both buffers
 both_agree : (o : Outcome) → FixesTwo (λ r b x. buffers (answered (amended_of r)) b x ≡ o)

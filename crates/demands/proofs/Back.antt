@@ -14,7 +14,7 @@ use Rattle.words.specs.Words.{All}
 use Rattle.words.specs.Scans.{passing, within, plain_in}
 use Rattle.words.proofs.Scans.{scan_take, pass_all}
 use Rattle.words.proofs.Lists.{all_get_d}
-use Rattle.field.specs.declared.Number.TheVariants.{Bad}
+use Rattle.std.specs.Prelude.{None}
 use Rattle.field.specs.Reading.{columns, read_field}
 use Rattle.field.proofs.Exact.{field_read}
 use Rattle.units.proofs.Choosing.{by_test, both_ways}
@@ -50,7 +50,7 @@ blank_seen l k h =
     le-leb (min (6 * k + 6) (length l)) (blank_to (6 * k) l) (omega (arith, scan_take is_blank 6 here, length-take 6 here, length-drop (6 * k) l))
 
 -- a line with a number field is not blank
-blank_bad : (l : Line) → Blanks l → read_field (columns 6 l 0) ≡ Bad
+blank_bad : (l : Line) → Blanks l → read_field (columns 6 l 0) ≡ None
 unfolding read_field columns
 blank_bad l h = rw (column 0, column 1, column 2, column 3, column 4, column 5) refl
   where
@@ -63,7 +63,7 @@ is_first-line num held l w h =
     by_test (λ v. v ≡ first_line num held l) (blank_line l) (gives [] []) (first_line num held l)
     (λ t. absurd (never (blank_bad l (all_blank l (omega (arith, leb-true (length l) (blank_to 0 l) t)))))) (λ _. refl)
   where
-    never : read_field (columns 6 l 0) ≡ Bad → ⊥
+    never : read_field (columns 6 l 0) ≡ None → ⊥
     never b = let z : ◌≡◌ {A = ℕ} 0 1 = cc (field_read h) in omega arith
 
 -- ---- the words on a line of fields

@@ -1,7 +1,6 @@
 -- Stepping through an accepted block, and finding a record, against the list of its records.
-use Rattle.std.specs.Prelude.{◌≡◌, List, ◌∷◌, ◌++◌, ℕ, ◌+◌, length}
+use Rattle.std.specs.Prelude.{◌≡◌, List, ◌∷◌, ◌++◌, ℕ, ◌+◌, length, None}
 use Rattle.words.specs.Words.{words_of, joined, Below}
-use Rattle.block_steps.specs.declared.Place.TheVariants.{NoMore}
 use Rattle.block.specs.Judging.{Accepted}
 use Rattle.block.specs.Records.{records_of}
 use Rattle.block_steps.specs.Steps.{place_of, step_of, find_of, placed}
@@ -14,7 +13,7 @@ StepFinds =
 
 -- and behind the last record, no more
 abbrev pub StepEnds : Type 0
-StepEnds = (b : List ℕ) → Below 256 b → Accepted b → step_of (words_of b) (1 + length (joined (records_of b))) ≡ NoMore
+StepEnds = (b : List ℕ) → Below 256 b → Accepted b → step_of (words_of b) (1 + length (joined (records_of b))) ≡ None
 
 -- record n is found at its place in the list
 abbrev pub FindFinds : Type 0

@@ -1,9 +1,8 @@
 -- Demand 2: which texts are accepted, with no order of tests in it.
-use Rattle.std.specs.Prelude.{◌↔◌, ◌≡◌, List, ℕ, ◌≤◌, length}
+use Rattle.std.specs.Prelude.{◌↔◌, ◌≡◌, List, ℕ, ◌≤◌, length, Some}
 use Rattle.units.specs.Answers.{passed}
 use Rattle.words.specs.Words.{joined, All, most_record_words}
 use Rattle.record.specs.Rules.{RecordOk}
-use Rattle.field.specs.declared.Number.TheVariants.{Word}
 use Rattle.field.specs.Reading.{read_field}
 use Rattle.field.specs.Grammar.{IsField}
 use Rattle.read_cut.specs.Lines.{lines_in}
@@ -12,7 +11,7 @@ use Rattle.read_records.specs.Spelled.{Readable, Spelled}
 
 -- a field is read as a word exactly where the grammar has it as a field of that word
 abbrev pub FieldsExactly : Type 0
-FieldsExactly = (bs : List ℕ) (w : ℕ) → (read_field bs ≡ Word w) ↔ IsField bs w
+FieldsExactly = (bs : List ℕ) (w : ℕ) → (read_field bs ≡ Some w) ↔ IsField bs w
 
 -- this text is one of these records: at most 65,536 bytes, whose lines are the records in some spelling with blank lines around them
 pub record IsText (t : List ℕ) (rs : List (List ℕ)) : Type 0 where
