@@ -16,8 +16,7 @@ use Rattle.words.specs.Scans.{passing, within, plain_in}
 use Rattle.words.proofs.Scans.{scan_take, scan_le, all_pass}
 use Rattle.read_columns.proofs.Columns.{part-columns}
 use Rattle.record.specs.Rules.{CardWord}
-use Rattle.field.specs.declared.Number.{Number}
-use Rattle.field.specs.declared.Number.TheVariants.{Word, Bad}
+use Rattle.std.specs.Prelude.{Option, Some, None}
 use Rattle.field.specs.Reading.{read_field, columns}
 use Rattle.field.specs.Grammar.{SignedWord, not_negative, negative, minus_zero}
 use Rattle.field.proofs.Exact.{field_said}
@@ -100,9 +99,9 @@ module _ (num : ℕ) (hn : num < 2 ^ 24) (l : Line) where
   unfolding number
   number_known k h = by (read_field (columns 6 l (6 * k))) refl
     where
-      by : (n : Number) → read_field (columns 6 l (6 * k)) ≡ n → Known TextRow (Spells l k) (word_in num k n)
-      by (Word w) e = field_said e
-      by Bad e = told 22 num (column_of k) (omega arith) hn (omega arith)
+      by : (n : Option ℕ) → read_field (columns 6 l (6 * k)) ≡ n → Known TextRow (Spells l k) (word_in num k n)
+      by (Some w) e = field_said e
+      by None e = told 22 num (column_of k) (omega arith) hn (omega arith)
 
   pub numbers_known : (k m : ℕ) → k + m ≤ most_words → Known TextRow (WordsRead l k m) (field_numbers num l k m)
   unfolding field_numbers

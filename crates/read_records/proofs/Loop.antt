@@ -4,7 +4,6 @@ use mathlib.Core.List.{List, [], ◌∷◌, ◌++◌}
 use Prim.Native.Nat.{ℕ, suc, ◌+◌, ◌-◌, ◌^◌, ◌≤◌, ◌<◌}
 use native.Mathlib.Omega.{arith}
 use lib.ListN.{length, take, drop, length-append}
-use Rattle.units.specs.declared.Words.{Words}
 use Rattle.units.specs.Answers.{Verdict, passed, refused, onward}
 use Rattle.units.proofs.Verdicts.{never_passed}
 use Rattle.read_columns.specs.declared.Flaw.{Flaw}
@@ -13,9 +12,8 @@ use Rattle.read_first_line.specs.FirstLine.{Shape, Read}
 use Rattle.read_line.specs.Lines.{read_line, read_lines}
 use Rattle.read_first_line.specs.State.{Stand, to_come, put, after, stand_of}
 use Rattle.read_records.specs.Content.{stored}
-use Rattle.read_first_line.specs.declared.Rest.{Rest}
-use Rattle.read_first_line.specs.declared.Move.{Move}
-use Rattle.read_first_line.specs.declared.Move.TheVariants.{Next, Refused}
+use Rattle.read_first_line.specs.declared.Next.{Next}
+use Rattle.std.specs.Prelude.{Result, Ok, Err}
 use Rattle.read_cut.specs.declared.Cut.{Cut}
 use Rattle.read_cut.specs.Lines.{lines_in, CutAt}
 use Rattle.read_first_line.proofs.Heads.{put-append}
@@ -33,51 +31,50 @@ kept_both held b ws (refused r) = refl
 
 module _ (num held : ℕ) (rest : List Shape) (l : List ℕ) (ls : List (List ℕ)) (b b' : List ℕ) where
   -- an accepted line
-  turn : (p : Rest) (n : Words) → stand_of b' (Next p n) ≡ after held b (read_line num held rest l) →
-      stored held b (read_lines num held rest (l ∷ ls)) ≡ stored n.0 b' (read_lines (num + 1) n.0 (to_come p) ls)
+  turn : (n : Next) → stand_of b' (Ok n) ≡ after held b (read_line num held rest l) →
+      stored held b (read_lines num held rest (l ∷ ls)) ≡ stored n.held.0 b' (read_lines (num + 1) n.held.0 (to_come n.rest) ls)
   unfolding read_lines
-  turn p n e = let s : suc num ≡ num + 1 = omega arith in by (read_line num held rest l) e ∙ ap (λ k. stored n.0 b' (read_lines k n.0 (to_come p) ls)) s
+  turn n e = let s : suc num ≡ num + 1 = omega arith in by (read_line num held rest l) e ∙ ap (λ k. stored n.held.0 b' (read_lines k n.held.0 (to_come n.rest) ls)) s
     where
-      by : (v : Verdict Read) → stand_of b' (Next p n) ≡ after held b v →
+      by : (v : Verdict Read) → stand_of b' (Ok n) ≡ after held b v →
           stored held b (onward v (λ s. onward (read_lines (suc num) (held + length s.words) s.rest ls) (λ ws. passed (s.words ++ ws))))
-          ≡ stored n.0 b' (read_lines (suc num) n.0 (to_come p) ls)
+          ≡ stored n.held.0 b' (read_lines (suc num) n.held.0 (to_come n.rest) ls)
       by (passed s) e =
-          let same : ◌≡◌ {A = Stand} (record { rest = to_come p; held = n.0; block = b' }) (record { rest = s.rest; held = held + length s.words; block = put held b s.words }) = cc in
+          let same : ◌≡◌ {A = Stand} (record { rest = to_come n.rest; held = n.held.0; block = b' }) (record { rest = s.rest; held = held + length s.words; block = put held b s.words }) = cc in
           rw (ap (λ (x : Stand). x.held) same, ap (λ (x : Stand). x.block) same, ap (λ (x : Stand). x.rest) same)
           (kept_both held b s.words (read_lines (suc num) (held + length s.words) s.rest ls))
       by (refused r) e = absurd (never_passed (sym e))
 
   -- a refused one
-  end : (f : Flaw) → stand_of b' (Refused f) ≡ after held b (read_line num held rest l) → stored held b (read_lines num held rest (l ∷ ls)) ≡ refused (flaw_of f)
+  end : (f : Flaw) → stand_of b' (Err f) ≡ after held b (read_line num held rest l) → stored held b (read_lines num held rest (l ∷ ls)) ≡ refused (flaw_of f)
   unfolding read_lines
   end f e = by (read_line num held rest l) e
     where
-      by : (v : Verdict Read) → stand_of b' (Refused f) ≡ after held b v →
+      by : (v : Verdict Read) → stand_of b' (Err f) ≡ after held b v →
           stored held b (onward v (λ s. onward (read_lines (suc num) (held + length s.words) s.rest ls) (λ ws. passed (s.words ++ ws)))) ≡ refused (flaw_of f)
       by (passed s) e = absurd (never_passed e)
       by (refused r) e = cc
 
 -- and there is room for the lines to come, as before it
-room_next : (num held : ℕ) (rest : List Shape) (l b b' : List ℕ) (p : Rest) (n : Words) → num < 2 ^ 24 → RoomToCome held rest
-    → stand_of b' (Next p n) ≡ after held b (read_line num held rest l) → RoomToCome n.0 (to_come p)
-room_next num held rest l b b' p n hn h e = by (read_line num held rest l) (line_known num hn held l rest h) e
+room_next : (num held : ℕ) (rest : List Shape) (l b b' : List ℕ) (n : Next) → num < 2 ^ 24 → RoomToCome held rest
+    → stand_of b' (Ok n) ≡ after held b (read_line num held rest l) → RoomToCome n.held.0 (to_come n.rest)
+room_next num held rest l b b' n hn h e = by (read_line num held rest l) (line_known num hn held l rest h) e
   where
-    by : (v : Verdict Read) → Known TextRow (Taken held rest l) v → stand_of b' (Next p n) ≡ after held b v → RoomToCome n.0 (to_come p)
+    by : (v : Verdict Read) → Known TextRow (Taken held rest l) v → stand_of b' (Ok n) ≡ after held b v → RoomToCome n.held.0 (to_come n.rest)
     by (passed s) t e =
-        let same : ◌≡◌ {A = Stand} (record { rest = to_come p; held = n.0; block = b' }) (record { rest = s.rest; held = held + length s.words; block = put held b s.words }) = cc in
+        let same : ◌≡◌ {A = Stand} (record { rest = to_come n.rest; held = n.held.0; block = b' }) (record { rest = s.rest; held = held + length s.words; block = put held b s.words }) = cc in
         rw (ap (λ (x : Stand). x.held) same, ap (λ (x : Stand). x.rest) same) (room_on held rest l s h t.given)
     by (refused r) t e = absurd (never_passed (sym e))
 
 -- where the loop stands at place `at`: the lines from there on, and bounds on what is counted
-pub record Reading (text b₀ b : List ℕ) (row : List ℕ) (rest : List Shape) (held num at : ℕ) : Type 0 where
+pub record Reading (text b₀ b : List ℕ) (rest : List Shape) (held num at : ℕ) : Type 0 where
   pub same : stored held b (read_lines num held rest (lines_in (drop at text))) ≡ stored 0 b₀ (read_lines 1 0 [] (lines_in text))
   pub length_kept : length b ≡ length b₀
-  pub row_long : length row ≡ 20
   pub lines_most : num ≤ at + 1
   pub room : RoomToCome held rest
 
 -- a turn of the loop, on the line that is cut at its place
-module _ {text b₀ b row : List ℕ} {rest : List Shape} {held num at : ℕ} (g : Reading text b₀ b row rest held num at) {c : Cut} (cut : CutAt text at c) where
+module _ {text b₀ b : List ℕ} {rest : List Shape} {held num at : ℕ} (g : Reading text b₀ b rest held num at) {c : Cut} (cut : CutAt text at c) where
   abbrev line : List ℕ
   line = take (c.end.0 - at) (drop at text)
 
@@ -85,18 +82,16 @@ module _ {text b₀ b row : List ℕ} {rest : List Shape} {held num at : ℕ} (g
   same_cut : stored held b (read_lines num held rest (line ∷ lines_in (drop c.next.0 text))) ≡ stored 0 b₀ (read_lines 1 0 [] (lines_in text))
   same_cut = ap (λ x. stored held b (read_lines num held rest x)) (sym cut.cut) ∙ g.same
 
-  module _ (b' : List ℕ) (s : Move) (read : stand_of b' s ≡ after held b (read_line num held rest line)) where
-    pub reading-refused : {f : Flaw} → s ≡ Refused f → refused (flaw_of f) ≡ stored 0 b₀ (read_lines 1 0 [] (lines_in text))
+  module _ (b' : List ℕ) (s : Result Next Flaw) (read : stand_of b' s ≡ after held b (read_line num held rest line)) where
+    pub reading-refused : {f : Flaw} → s ≡ Err f → refused (flaw_of f) ≡ stored 0 b₀ (read_lines 1 0 [] (lines_in text))
     reading-refused {f} is = sym (end num held rest line (lines_in (drop c.next.0 text)) b b' f (ap (stand_of b') (sym is) ∙ read)) ∙ same_cut
 
-    pub reading-on : {p : Rest} {n : Words} {row' : List ℕ} → s ≡ Next p n → length text ≤ 65536 → length b' ≡ length b → length row' ≡ length row
-        → Reading text b₀ b' row' (to_come p) n.0 (num + 1) c.next.0
-    reading-on {p} {n} is small Kept-Block kept_row =
-        let e : stand_of b' (Next p n) ≡ after held b (read_line num held rest line) = ap (stand_of b') (sym is) ∙ read in
+    pub reading-on : {n : Next} → s ≡ Ok n → length text ≤ 65536 → length b' ≡ length b → Reading text b₀ b' (to_come n.rest) n.held.0 (num + 1) c.next.0
+    reading-on {n} is small kept =
+        let e : stand_of b' (Ok n) ≡ after held b (read_line num held rest line) = ap (stand_of b') (sym is) ∙ read in
         record {
-          same = sym (turn num held rest line (lines_in (drop c.next.0 text)) b b' p n e) ∙ same_cut;
-          length_kept = Kept-Block ∙ g.length_kept;
-          row_long = kept_row ∙ g.row_long;
+          same = sym (turn num held rest line (lines_in (drop c.next.0 text)) b b' n e) ∙ same_cut;
+          length_kept = kept ∙ g.length_kept;
           lines_most = omega (arith, g.lines_most, cut.onward);
-          room = room_next num held rest line b b' p n (omega (arith, g.lines_most, cut.onward, cut.inside)) g.room e;
+          room = room_next num held rest line b b' n (omega (arith, g.lines_most, cut.onward, cut.inside)) g.room e;
         }

@@ -13,7 +13,7 @@ pub returns-then-p-gt0-2 : goal.returns-then-p-gt0-2
 returns-then-p-gt0-2 c = λ b. inside _ _ b _ _ (sym c.settled-p.ensures.0 ∙ fields_less c.settled-p.result (omega (arith, c.if-p-gt0.false)) c.if-p-gt0-2.true)
 
 pub returns-then-held-eq0 : goal.returns-then-held-eq0
-returns-then-held-eq0 c = λ b. no_record_lem _ _ b ((let the_none_left : (to_come c.args.rest ≡ []) = sym c.settled-p.ensures.0 ∙ none_to_come c.settled-p.result (omega (arith, c.if-p-gt0.false)) (c.settled-p.ensures.1 (omega (arith, c.if-p-gt0-2.false))) in the_none_left)) c.if-held-eq0.true
+returns-then-held-eq0 c = λ b. no_record_lem _ _ b ((let the_none_left : (to_come c.args.next.rest ≡ []) = sym c.settled-p.ensures.0 ∙ none_to_come c.settled-p.result (omega (arith, c.if-p-gt0.false)) (c.settled-p.ensures.1 (omega (arith, c.if-p-gt0-2.false))) in the_none_left)) c.if-held-eq0.true
 
 pub returns : goal.returns
-returns c = λ b. all_read _ _ b ((let the_none_left : (to_come c.args.rest ≡ []) = sym c.settled-p.ensures.0 ∙ none_to_come c.settled-p.result (omega (arith, c.if-p-gt0.false)) (c.settled-p.ensures.1 (omega (arith, c.if-p-gt0-2.false))) in the_none_left)) c.if-held-eq0.false
+returns c = λ b. all_read _ _ b ((let the_none_left : (to_come c.args.next.rest ≡ []) = sym c.settled-p.ensures.0 ∙ none_to_come c.settled-p.result (omega (arith, c.if-p-gt0.false)) (c.settled-p.ensures.1 (omega (arith, c.if-p-gt0-2.false))) in the_none_left)) c.if-held-eq0.false
