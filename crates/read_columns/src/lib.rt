@@ -115,7 +115,8 @@ impl<'a> Line<'a> {
         self.text.len() <= self.blank_to(Bytes(0))
     }
 
-    // The number in the field with k fields before it.
+    // The number in the field with k fields before it. Inlined: a call of its own would hand each number on through memory.
+    #[inline(always)]
     fn number(self, k: Words) -> Result<u16, Flaw>
         requires { k.0 ≤ 20 }
         ensures { read_of result ≡ number self.entry.num.0 self.entry.text.now k.0 }

@@ -7,15 +7,20 @@ use Rattle.words.specs.Words.{word, bytes_of, most_record_words}
 use Rattle.line_plan.specs.Plan.{part, times}
 use Rattle.read_columns.specs.Cases.{flaw_of}
 use Rattle.read_first_line.specs.FirstLine.{Shape, card, fields, Read, Head, cards, counts, catalogue_fields, header_fields, data_fields}
+use Rattle.read_first_line.specs.declared.Parts.{Parts}
 use Rattle.read_first_line.specs.declared.Rest.{Rest}
 use Rattle.read_first_line.specs.declared.Next.{Next}
 use Rattle.record.specs.declared.kind.Kind.{Kind}
 use Rattle.record.specs.declared.kind.Kind.TheVariants.{Catalogue, Header, Data}
 use Rattle.read_columns.specs.declared.Flaw.{Flaw}
 
+-- the lines of parts that are not begun
+abbrev pub lines_of : Parts → List ℕ
+lines_of parts = times parts.count (part parts.width.0)
+
 -- the Data lines to come: the rest of the present part, then the 1-D and the 2-D parts not begun
 unfoldable pub lines_left : Rest → List ℕ
-lines_left p = part p.left.0 ++ (times p.singles (part p.jpar.0) ++ times p.rows (part p.mpar.0))
+lines_left p = part p.left.0 ++ (lines_of p.singles ++ lines_of p.rows)
 
 -- all lines to come
 unfoldable pub to_come : Rest → List Shape

@@ -15,15 +15,20 @@ use read_columns::{Flaw, Line};
 use record::Kind;
 use units::{Lines, Words};
 
-// What is to come of a record: cards; or fields of the present part, then `singles` 1-D parts and `rows` 2-D parts, codes and rows.
+// Parts that are not begun: how many, and the fields of each.
+#[derive(Clone, Copy)]
+pub struct Parts {
+    pub count: usize,
+    pub width: Words,
+}
+
+// What is to come of a record: cards; or fields of the present part, then the 1-D parts, and the 2-D parts, codes and rows.
 #[derive(Clone, Copy)]
 pub struct Rest {
     pub cards: Lines,
     pub left: Words,
-    pub singles: usize,
-    pub jpar: Words,
-    pub rows: usize,
-    pub mpar: Words,
+    pub singles: Parts,
+    pub rows: Parts,
 }
 
 // Between two lines: what is to come, and the record words so far.
@@ -37,13 +42,15 @@ pub struct Next {
 pub fn cards_only(cards: Lines) -> Rest
     ensures { to_come result ≡ replicate cards.0 card }
 {
+    let none = Parts {
+        count: 0,
+        width: Words(0),
+    };
     Rest {
         cards,
         left: Words(0),
-        singles: 0,
-        jpar: Words(0),
-        rows: 0,
-        mpar: Words(0),
+        singles: none,
+        rows: none,
     }
 }
 
@@ -57,6 +64,7 @@ fn header_fields(line: Line, row: &mut [u16; 20]) -> Result<(), Flaw>
 }
 
 // The counts among the fields of a Data record's first line.
+// Kept: `counts::counts_of` takes them from a record's bytes, and this from numbers: a function for both would take four words and do nothing.
 fn row_counts(row: &[u16]) -> Counts
     requires { 16 ≤ length row.now }
     ensures { result ≡ counts_of row.now }
@@ -141,6 +149,7 @@ fn first_fields(line: Line, row: &mut [u16; 20]) -> Result<Kind, Flaw>
 }
 
 // Puts a record's first words: LTOT, its kind, and the fields of its first line from field 3 on.
+// Kept: `held` and `block` are two parameters, here and in `read_line`: a struct that holds the lent output was tried in report, and each contract must then say besides that it is still the same block.
 fn put_head(total: Words, kind: Kind, row: &[u16], block: &mut [u8], held: Words)
     requires { (total.0 < 65536) × (length row.now ≤ 20) × (held.0 ≤ most_record_words) }
     ensures { block.new ≡ put held.0 block.old (total.0 ∷ (kind_word kind ∷ drop 2 row.now)) }
@@ -173,7 +182,7 @@ fn cards_room(num: Lines, held: Words, stated: u16) -> Result<(), Flaw>
     requires { held.0 ≤ most_record_words }
     ensures { tested_of tt result ≡ cards_room num.0 held.0 stated }
 {
-    if stated < 1 || 199 < stated {
+    if !(1..=199).contains(&stated) {
         return Err(Flaw::Count(num));
     }
     let all = held.0 + units::words_of_cards(units::lines_said(stated)).0;
@@ -239,10 +248,14 @@ fn behind_first(used: usize, c: Counts) -> Rest
     Rest {
         cards: Lines(0),
         left: Words(left),
-        singles: 2,
-        jpar: units::words_said(c.jpar),
-        rows,
-        mpar: units::words_said(c.mpar),
+        singles: Parts {
+            count: 2,
+            width: units::words_said(c.jpar),
+        },
+        rows: Parts {
+            count: rows,
+            width: units::words_said(c.mpar),
+        },
     }
 }
 

@@ -1,5 +1,5 @@
 -- The lines to come of a record, as they get fewer.
-use mathlib.Core.Path.{◌≡◌, refl, ap, ap₂, ◌∙◌}
+use mathlib.Core.Path.{◌≡◌, refl, sym, ap, ap₂, ◌∙◌}
 use mathlib.Core.List.{List, [], ◌∷◌, ◌++◌, map, append_assoc}
 use mathlib.Core.Logic.{◌⊎◌, inl, inr}
 use Prim.Native.Nat.{ℕ, zero, suc, ◌-◌, ◌≤◌, ◌<◌, min}
@@ -8,7 +8,7 @@ use lib.ListN.{replicate}
 use Rattle.line_plan.specs.Plan.{part, times}
 use Rattle.read_first_line.specs.declared.Rest.{Rest}
 use Rattle.read_first_line.specs.FirstLine.{card, fields}
-use Rattle.read_first_line.specs.State.{lines_left, to_come}
+use Rattle.read_first_line.specs.State.{lines_of, lines_left, to_come}
 use Rattle.read_first_line.proofs.Coming.{line_less}
 
 -- parts without fields take no lines
@@ -17,19 +17,20 @@ unfolding times part
 times_none zero w e = refl
 times_none (suc n) w e = rw e (times_none n 0 refl)
 
--- a part is used up, and the next of its sort begins
-pub next_part : (left n w : ℕ) (ns : List ℕ) → left ≡ 0 → 0 < n → part left ++ (times n (part w) ++ ns) ≡ part w ++ (times (n - 1) (part w) ++ ns)
-unfolding times part
-next_part left n w ns e h =
-    let s : n ≡ suc (n - 1) = omega arith in
-    rw e (ap (λ k. times k (part w) ++ ns) s ∙ append_assoc (part w) (times (n - 1) (part w)) ns)
+-- the next of some parts begins
+pub one_begins : (n w : ℕ) → 0 < n → times n (part w) ≡ part w ++ times (n - 1) (part w)
+unfolding times
+one_begins n w h = let s : n ≡ suc (n - 1) = omega arith in ap (λ k. times k (part w)) s
 
--- the same of the last sort, where the other has none
-pub next_row : (left n w : ℕ) (singles : List ℕ) → singles ≡ [] → left ≡ 0 → 0 < n → part left ++ (singles ++ times n (part w)) ≡ part w ++ (singles ++ times (n - 1) (part w))
-unfolding part times
-next_row left n w singles none e h =
-    let s : n ≡ suc (n - 1) = omega arith in
-    rw (none, e) (ap (λ k. times k (part w)) s)
+-- so it does where the present part is used up: it is a 1-D part,
+pub next_single : (left w : ℕ) (singles more rows : List ℕ) → left ≡ 0 → singles ≡ part w ++ more → part w ++ (more ++ rows) ≡ part left ++ (singles ++ rows)
+unfolding part
+next_single left w singles more rows e b = rw (e, b) (sym (append_assoc (part w) more rows))
+
+-- or a 2-D part, where no 1-D part has fields
+pub next_row : (left w : ℕ) (singles rows more : List ℕ) → left ≡ 0 → singles ≡ [] → rows ≡ part w ++ more → part w ++ (singles ++ more) ≡ part left ++ (singles ++ rows)
+unfolding part
+next_row left w singles rows more e none b = rw (e, none, b)
 
 -- no part has fields
 pub no_parts : (left : ℕ) {singles rows : List ℕ} → left ≡ 0 → singles ≡ [] → rows ≡ [] → part left ++ (singles ++ rows) ≡ []
@@ -52,9 +53,9 @@ card_less p h = let e : p.cards.0 ≡ suc (p.cards.0 - 1) = omega arith in ap (�
 -- a line of fields to come, and the rest
 pub fields_less : (p : Rest) → p.cards.0 ≡ 0 → 0 < p.left.0 →
     let n = min p.left.0 20 in
-    to_come p ≡ fields n ∷ map fields (part (p.left.0 - n) ++ (times p.singles (part p.jpar.0) ++ times p.rows (part p.mpar.0)))
+    to_come p ≡ fields n ∷ map fields (part (p.left.0 - n) ++ (lines_of p.singles ++ lines_of p.rows))
 unfolding to_come lines_left
-fields_less p e h = ap₂ (λ n ls. replicate n card ++ map fields ls) e (line_less p.left.0 (times p.singles (part p.jpar.0) ++ times p.rows (part p.mpar.0)) h)
+fields_less p e h = ap₂ (λ n ls. replicate n card ++ map fields ls) e (line_less p.left.0 (lines_of p.singles ++ lines_of p.rows) h)
 
 -- no parts, or parts without fields
 pub no_lines : (n w : ℕ) → (0 < n × w ≤ 0) ⊎ n ≤ 0 → times n (part w) ≡ []

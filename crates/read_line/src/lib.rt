@@ -1,19 +1,33 @@
 // Reads a line of a text, by what is to come of a record, and puts its words into a block as far as that has room.
 #![tactic(auto)]
 
-ghost use Rattle.std.specs.Prelude.{◌≡◌, [], ◌∷◌, ◌≤◌, ◌<◌, min, length, take};
+ghost use Rattle.std.specs.Prelude.{◌≡◌, [], ◌∷◌, ◌++◌, ◌≤◌, ◌<◌, min, length, take, MatchOption};
 ghost use Rattle.words.specs.Words.{words_of, most_record_words};
 ghost use Rattle.words.specs.Scans.{plain_in};
+ghost use Rattle.line_plan.specs.Plan.{part};
 ghost use Rattle.field.specs.Reading.{columns};
 ghost use Rattle.read_columns.specs.Cases.{tested_of};
 ghost use Rattle.read_first_line.specs.FirstLine.{card, fields};
-ghost use Rattle.read_first_line.specs.State.{to_come, Moved, put, Lent};
+ghost use Rattle.read_first_line.specs.State.{lines_of, to_come, Moved, put, Lent};
 ghost use Rattle.read_line.specs.Lines.{later_fields, in_state, read_line};
 ghost use Rattle.read_line.specs.State.{Settled, FieldsNext};
 
 use read_columns::{Flaw, Line};
-use read_first_line::{Next, Rest};
+use read_first_line::{Next, Parts, Rest};
 use units::{Bytes, Lines, Words};
+
+// The parts behind the next one that has fields, if one has.
+fn begun(parts: Parts) -> Option<Parts>
+    ensures { MatchOption result (lines_of parts ≡ []) (λ more. (lines_of parts ≡ part more.width.0 ++ lines_of more) × (0 < more.width.0)) }
+{
+    if 0 < parts.count && 0 < parts.width.0 {
+        return Some(Parts {
+            count: parts.count - 1,
+            ..parts
+        });
+    }
+    None
+}
 
 // Where the present part is used up, the next one that has fields.
 pub fn settled(p: Rest) -> Rest
@@ -22,17 +36,17 @@ pub fn settled(p: Rest) -> Rest
     if 0 < p.left.0 {
         return p;
     }
-    if 0 < p.singles && 0 < p.jpar.0 {
+    if let Some(singles) = begun(p.singles) {
         return Rest {
-            left: p.jpar,
-            singles: p.singles - 1,
+            left: singles.width,
+            singles,
             ..p
         };
     }
-    if 0 < p.rows && 0 < p.mpar.0 {
+    if let Some(rows) = begun(p.rows) {
         return Rest {
-            left: p.mpar,
-            rows: p.rows - 1,
+            left: rows.width,
+            rows,
             ..p
         };
     }

@@ -1,27 +1,26 @@
-use mathlib.Core.Path.{refl, sym, ap}
+use mathlib.Core.Path.{refl, ap}
 use mathlib.Core.List.{◌++◌, map}
 use native.Mathlib.Omega.{arith}
 use lib.ListN.{replicate}
-use Rattle.line_plan.specs.Plan.{part, times}
 use Rattle.read_first_line.specs.FirstLine.{card, fields}
-use Rattle.read_first_line.specs.State.{to_come, lines_left}
-use Rattle.read_line.proofs.ToCome.{next_part, next_row, no_parts, no_lines}
+use Rattle.read_first_line.specs.State.{to_come, lines_of, lines_left}
+use Rattle.read_line.proofs.ToCome.{next_single, next_row, no_parts}
 use Rattle.read_line.proofs.settled.Goals as goal
 
-pub returns-then-p-gt0-3 : goal.returns-then-p-gt0-3
+pub returns-in-Some : goal.returns-in-Some
 unfolding lines_left to_come
-returns-then-p-gt0-3 c = let p = c.args.p in (
-  ap (λ l. replicate p.cards.0 card ++ map fields l) (sym (next_part p.left.0 p.singles p.jpar.0 (times p.rows (part p.mpar.0)) (omega arith) (omega arith))),
-  λ e. absurd (omega arith),
+returns-in-Some c = let p = c.args.p in let next = c.in-Some.ensures in (
+  ap (λ l. replicate p.cards.0 card ++ map fields l) (next_single p.left.0 c.in-Some.singles.width.0 _ _ (lines_of p.rows) (omega arith) next.0),
+  λ e. absurd (omega (arith, next.1)),
 )
 
-pub returns-then-p-gt0-5 : goal.returns-then-p-gt0-5
+pub returns-in-Some-begun : goal.returns-in-Some-begun
 unfolding lines_left to_come
-returns-then-p-gt0-5 c = let p = c.args.p in (
-  ap (λ l. replicate p.cards.0 card ++ map fields l) (sym (next_row p.left.0 p.rows p.mpar.0 (times p.singles (part p.jpar.0)) (no_lines p.singles p.jpar.0 c.else-p-gt0-2.either) (omega arith) (omega arith))),
-  λ e. absurd (omega arith),
+returns-in-Some-begun c = let p = c.args.p in let next = c.in-Some-begun.ensures in (
+  ap (λ l. replicate p.cards.0 card ++ map fields l) (next_row p.left.0 c.in-Some-begun.rows.width.0 (lines_of p.singles) _ _ (omega arith) c.in_default.ensures next.0),
+  λ e. absurd (omega (arith, next.1)),
 )
 
 pub returns : goal.returns
 unfolding lines_left
-returns c = let p = c.args.p in (refl, λ e. no_parts p.left.0 e (no_lines p.singles p.jpar.0 c.else-p-gt0-2.either) (no_lines p.rows p.mpar.0 c.else-p-gt0-4.either))
+returns c = (refl, λ e. no_parts c.args.p.left.0 e c.in_default.ensures c.in_default-begun.ensures)
