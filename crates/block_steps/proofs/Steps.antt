@@ -39,16 +39,7 @@ step_found ws at p e = by (eqb (get_or ws at 0) 0 || ltb (length ws - 1 - at) (g
         let some : 1 ≤ p.size.0 = omega (arith, eqb-false (get_or ws at 0) 0 o.0) in
         record { here = sym here; some = some; within = omega (arith, ltb-false (length ws - 1 - at) (get_or ws at 0) o.1) }
 
--- the first record from a place on is the one that stands there
-pub find_first : (ws : List ℕ) (at i : ℕ) → i ≡ 1 → find_of ws at i ≡ step_of ws at
-unfolding find_of
-find_first ws at i e = rw e refl
-
-pub find_none : (ws : List ℕ) (at i : ℕ) → i ≡ 0 → None ≡ find_of ws at i
-unfolding find_of
-find_none ws at i e = rw e refl
-
--- for a later one the search goes on behind it, unless there is no more
+-- for a record that is not the first the search goes on behind that one, unless there is no more
 pub find_on : (ws : List ℕ) (at i : ℕ) {j : ℕ} {p : Option Place} → i ≡ j + 1 → 1 ≤ j → step_of ws at ≡ p → find_of ws at i ≡ past p (λ next. find_of ws next j)
 unfolding find_of
 find_on ws at i {j} e h s = rw (e, add-one, ne_eqb j 0 (λ z. omega arith), s) refl

@@ -17,20 +17,16 @@ pub struct Place {
 }
 
 // The record with `at` words of the block before it, or none where none stands there.
+#[tactic(auto, unfolding(crate::specs::Steps::step_of))]
 pub fn step(block: &[u8], at: Words) -> Option<Place>
     ensures { StepsTo block.now at.0 result }
 {
-    let place = at.0;
     let m = words::count(block).0;
-    if m <= place {
+    if m <= at.0 {
         return None;
     }
     let size = units::words_said(words::word_at(block, at));
-    let k = size.0;
-    if k == 0 {
-        return None;
-    }
-    if m - 1 - place < k {
+    if size.0 == 0 || m - 1 - at.0 < size.0 {
         return None;
     }
     Some(Place { at, size })
@@ -56,6 +52,7 @@ pub fn record_at(block: &[u8], at: Words) -> &[u8]
 }
 
 // Record `number` of the block, or none where the block has fewer.
+#[tactic(auto, unfolding(crate::specs::Steps::find_of))]
 pub fn find(block: &[u8], number: u16) -> Option<Place>
     ensures { FindsRecord block.now number result }
 {
@@ -78,6 +75,7 @@ pub struct Walk<'a> {
 }
 
 // The records of a block, each lent in turn as a part of it.
+#[tactic(auto, unfolding(crate::specs::Standing::records_left))]
 pub fn records(block: &[u8]) -> Walk<'_>
     ensures { records_left result ≡ standing 0 (drop 1 (words_of block.now)) }
 {
@@ -97,6 +95,7 @@ impl<'a> Iterator for Walk<'a> {
 
     ghost remaining = { item_count records_left };
 
+    #[tactic(auto, unfolding(crate::specs::Standing::records_left))]
     fn next(&mut self) -> Option<&'a [u8]> {
         let (whole, end) = lend(self.block, self.at)?;
         self.at = end;

@@ -1,12 +1,8 @@
+use native.Mathlib.Omega.{arith}
+use Rattle.words.specs.Words.{words_of}
 use Rattle.record.proofs.Values.{is_data}
 use Rattle.write_lines.proofs.Sizes.{data_is}
-use Rattle.block.proofs.Exact.{ok_long}
-use Rattle.words.specs.Words.{words_of}
-use native.Mathlib.Omega.{arith}
 use Rattle.write_lines.proofs.write_data.Goals as goal
-
-pub counts_of-counts-requires : goal.counts_of-counts-requires
-counts_of-counts-requires c = ok_long (words_of c.args.whole.now) c.requires.0.good.ok
 
 pub write_plan-requires : goal.write_plan-requires
 write_plan-requires c = let ws = words_of c.args.whole.now in let d = is_data ws c.requires.0.good.ok c.requires.1 in
