@@ -15,8 +15,10 @@ use Rattle.words.proofs.Writing.{written_told}
 use Rattle.read_records.specs.Cases.{TextRow}
 use Rattle.read_records.specs.Reading.{read_text}
 use Rattle.read_records.proofs.Known.{WordsFit, text_known}
-use Rattle.read_text.specs.declared.Judged.{Judged}
-use Rattle.read_text.specs.declared.Built.{Built}
+use Rattle.std.specs.Prelude.{Result}
+use Rattle.units.specs.declared.Bytes.{Bytes}
+use Rattle.units.specs.declared.Unwritten.{Unwritten}
+use Rattle.read_columns.specs.declared.Flaw.{Flaw}
 use Rattle.read_text.specs.Cases.{WriteRow, judged_of, built_of}
 use Rattle.read_text.specs.Block.{block_in, judge_lines, write_block}
 use Rattle.read_text.specs.Promises.{JudgesLines, WritesBlock}
@@ -52,8 +54,8 @@ judged_packs (refused r) h = h.packs
 judged_packs (passed size) h = omega (arith, h)
 
 -- so outcomes that are the definitions' keep the promises
-pub lines_promised : (t : List ℕ) {r : Judged} → judged_of r ≡ judge_lines t → JudgesLines t r
+pub lines_promised : (t : List ℕ) {r : Result Bytes Flaw} → judged_of r ≡ judge_lines t → JudgesLines t r
 lines_promised t e = record { outcome = e; packs = rw e (judged_packs (judge_lines t) (size_known t)) }
 
-pub block_promised : (t block : List ℕ) {r : Built} {after : List ℕ} → leaves (built_of r) after ≡ write_block t block → WritesBlock t block r after
+pub block_promised : (t block : List ℕ) {r : Result Bytes (Unwritten Flaw)} {after : List ℕ} → leaves (built_of r) after ≡ write_block t block → WritesBlock t block r after
 block_promised t block e = record { outcome = e; packs = rw (ap (λ w. w.answer) e) (answer_told t block).packs }

@@ -17,8 +17,7 @@ use Rattle.words.specs.Outcomes.{leaves, written}
 use Rattle.read_columns.specs.declared.Flaw.{Flaw}
 use Rattle.read_columns.specs.Cases.{flaw_of}
 use Rattle.read_first_line.specs.State.{put}
-use Rattle.read_records.specs.declared.Content.{Content}
-use Rattle.read_records.specs.declared.Content.TheVariants.{RecordWords, Flawed}
+use Rattle.std.specs.Prelude.{Result, Ok, Err}
 use Rattle.read_records.specs.Content.{Stored, stored, stored_of}
 use Rattle.read_records.specs.Reading.{read_text}
 use Rattle.read_records.proofs.Known.{words_room}
@@ -74,28 +73,28 @@ refusal_judged t e = rw e
 -- ---- what was read, whatever was written on the way
 
 module _ (t b b' : List ℕ) where
-  pub words_read : {r : Content} {n : Words} → r ≡ RecordWords n → stored_of b' r ≡ stored 0 b (read_text t) → HasWords t n.0
+  pub words_read : {r : Result Words Flaw} {n : Words} → r ≡ Ok n → stored_of b' r ≡ stored 0 b (read_text t) → HasWords t n.0
   words_read {r} {n} found e = by (read_text t) refl (ap (stored_of b') (sym found) ∙ e)
     where
-      by : (v : Verdict (List ℕ)) → read_text t ≡ v → stored_of b' (RecordWords n) ≡ stored 0 b v → HasWords t n.0
+      by : (v : Verdict (List ℕ)) → read_text t ≡ v → stored_of b' (Ok n) ≡ stored 0 b v → HasWords t n.0
       by (passed ws) is same =
           let k : ◌≡◌ {A = Stored} (record { held = n.0; block = b' }) (record { held = 0 + length ws; block = put 0 b ws }) = cc in
           record { records = ws; is = is; count = ap (λ (x : Stored). x.held) k ∙ zero-add (length ws) }
       by (refused r) is same = absurd (never_passed (sym same))
 
-  pub flaw_read : {r : Content} {f : Flaw} → r ≡ Flawed f → stored_of b' r ≡ stored 0 b (read_text t) → read_text t ≡ refused (flaw_of f)
+  pub flaw_read : {r : Result Words Flaw} {f : Flaw} → r ≡ Err f → stored_of b' r ≡ stored 0 b (read_text t) → read_text t ≡ refused (flaw_of f)
   flaw_read {r} {f} found e = by (read_text t) (ap (stored_of b') (sym found) ∙ e)
     where
-      by : (v : Verdict (List ℕ)) → stored_of b' (Flawed f) ≡ stored 0 b v → v ≡ refused (flaw_of f)
+      by : (v : Verdict (List ℕ)) → stored_of b' (Err f) ≡ stored 0 b v → v ≡ refused (flaw_of f)
       by (passed ws) same = absurd (never_passed same)
       by (refused r) same = let k : flaw_of f ≡ r = cc in ap (λ x. refused x) (sym k)
 
   -- the words of an accepted text are put behind the length word
-  records_put : (n : ℕ) (r : Content) (a : HasWords t n) → stored_of b' r ≡ stored 0 b (read_text t) → b' ≡ put 0 b a.records
-  records_put n (RecordWords m) a e =
-      let k : ◌≡◌ {A = Stored} (record { held = m.0; block = b' }) (record { held = 0 + length a.records; block = put 0 b a.records }) = let s : stored_of b' (RecordWords m) ≡ stored 0 b (passed a.records) = rw a.is at e in cc in
+  records_put : (n : ℕ) (r : Result Words Flaw) (a : HasWords t n) → stored_of b' r ≡ stored 0 b (read_text t) → b' ≡ put 0 b a.records
+  records_put n (Ok m) a e =
+      let k : ◌≡◌ {A = Stored} (record { held = m.0; block = b' }) (record { held = 0 + length a.records; block = put 0 b a.records }) = let s : stored_of b' (Ok m) ≡ stored 0 b (passed a.records) = rw a.is at e in cc in
       ap (λ (x : Stored). x.block) k
-  records_put n (Flawed f) a e = let s : stored_of b' (Flawed f) ≡ stored 0 b (passed a.records) = rw a.is at e in absurd (never_passed s)
+  records_put n (Err f) a e = let s : stored_of b' (Err f) ≡ stored 0 b (passed a.records) = rw a.is at e in absurd (never_passed s)
 
 -- ---- writing
 
@@ -113,7 +112,7 @@ module _ (t b : List ℕ) (n : ℕ) (a : HasWords t n) {size : ℕ} (is : size �
   block_short h = too_short 29 b (block_from a.records) size length_is h ∙ sym (block_is t b n a)
 
   -- its words were put behind the length word, and sealed
-  pub block_built : (b' : List ℕ) (r : Content) {after : List ℕ} → size ≤ length b → stored_of b' r ≡ stored 0 b (read_text t)
+  pub block_built : (b' : List ℕ) (r : Result Words Flaw) {after : List ℕ} → size ≤ length b → stored_of b' r ≡ stored 0 b (read_text t)
       → after ≡ block_from (words (words_of b') 2 (n + 1)) ++ drop (bytes_of_words (n + 2)) b' → leaves (answer 0 size 0 0) after ≡ write_block t b
   block_built b' r room read sealed =
       rw is (all-written 29 b (block_from a.records) (omega (arith, length_is)) (sealed_put b a.records n a.count (omega arith) (records_put t b b' n r a read) sealed))

@@ -1,7 +1,7 @@
+use mathlib.Core.Path.{◌∙◌}
+use Rattle.units.proofs.Packing.{fitted_found}
+use Rattle.read_columns.specs.Cases.{flaw_of}
 use Rattle.read_text.proofs.judged_numbers.Goals as goal
 
-pub returns-in-Size : goal.returns-in-Size
-returns-in-Size c = rw c.in-Size.is c.sized.ensures
-
-pub returns-in-Flawed : goal.returns-in-Flawed
-returns-in-Flawed c = rw c.in-Flawed.is c.numbers.ensures
+pub returns : goal.returns
+returns c = (c.numbers.ensures.0 ∙ fitted_found flaw_of c.args.j, c.numbers.ensures.1)
