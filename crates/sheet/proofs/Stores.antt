@@ -2,8 +2,10 @@
 use mathlib.Core.Path.{◌≡◌, refl, sym, ap, ◌∙◌}
 use mathlib.Core.Bool.{Bool, false, not, ◌||◌}
 use mathlib.Core.List.{List, [], ◌∷◌, ◌++◌, append_assoc}
-use Prim.Native.Nat.{ℕ, suc, ◌+◌, ◌*◌, ◌/◌, ◌%◌, ◌≤◌, ◌<◌}
-use Rattle.std.specs.List.{list_any}
+use Prim.Native.Nat.{ℕ, suc, ◌+◌, ◌-◌, ◌*◌, ◌/◌, ◌%◌, ◌≤◌, ◌<◌}
+use Rattle.std.specs.List.{list_any, fold}
+use Rattle.std.specs.Int.Bits.{bit_or, or_zero_l}
+use Rattle.std.proofs.lemmas.Nat.{le_or_l, le_or_r}
 use Rattle.std.specs.Prelude.{if◌then◌else◌}
 use Rattle.std.proofs.lemmas.Bool.Decides.{nat_tests}
 use native.Mathlib.Numerals.{add-one}
@@ -11,7 +13,7 @@ use native.Mathlib.Omega.{arith}
 use borrow.Author.Tests.{eq-eqb, ne_eqb}
 use lib.Dec.{eqb}
 use lib.ListN.{length, get_or, take, drop, replicate, length-drop, drop_of_length-le}
-use lib.Seq.{sets, sets-eq, drop-drop, drop-cons}
+use lib.Seq.{sets, sets-eq, take_all, drop-drop, drop-cons}
 use borrow.Rule.Slice.PartMut.{put_mid}
 use Rattle.units.specs.Units.{bytes_of_words}
 use Rattle.units.specs.declared.Words.{Words}
@@ -31,6 +33,14 @@ use Rattle.sheet.proofs.Entries.{entry_words}
 abbrev pub stands : ℕ → Bool
 stands x = not (eqb x 0)
 
+-- bytes or-ed are not zero where one of them is not
+stands_or : (a b : ℕ) → stands (bit_or a b) ≡ (stands a || stands b)
+stands_or a b = let l = le_or_l a b in let r = le_or_r a b in let z : a ≡ 0 → b ≡ 0 → bit_or a b ≡ 0 = λ e f. rw (e, f, or_zero_l) in grind (arith, nat_tests)
+
+or_stands : (a : ℕ) (l : List ℕ) → stands (fold bit_or a l) ≡ (stands a || list_any stands l)
+or_stands a [] = grind (arith, nat_tests)
+or_stands a (x ∷ l) = let s = stands_or a x in let ih = or_stands (bit_or a x) l in grind (arith, nat_tests)
+
 -- some byte is not zero where some word is not
 word_stands : (x y n m : ℕ) (t : Bool) → t ≡ not (eqb n m) → (stands x || (stands y || t)) ≡ not (eqb (if eqb (x * 256 + y) 0 then suc n else 0) (suc m))
 word_stands x y n m t e = grind (arith, nat_tests)
@@ -42,10 +52,13 @@ some_stands (x ∷ []) e = absurd (omega arith)
 some_stands (x ∷ y ∷ b) e = word_stands x y (passing is_zero (words_of b)) (length (words_of b)) _ (some_stands b (omega arith))
 
 -- and these words are the numbers of the entries past the count
-pub past_stands : (s : List ℕ) (count before : ℕ) → length s ≡ 520 → before ≡ 8 + count * 8 → list_any stands (drop before s) ≡ not (all_zero (drop (count * 4) (numbers_in s)))
+pub past_stands : (s : List ℕ) (count before : ℕ) → length s ≡ 520 → before ≡ 8 + count * 8 → stands (fold bit_or 0 (take (length s - before) (drop before s))) ≡ not (all_zero (drop (count * 4) (numbers_in s)))
 past_stands s count before size e =
     let at : before ≡ 8 + count * 4 * 2 = omega arith in
-    some_stands (drop before s) (omega (arith, length-drop before s))
+    let l = length-drop before s in
+    ap (λ l. stands (fold bit_or 0 l)) (take_all (length s - before) (drop before s) (omega arith))
+    ∙ or_stands 0 (drop before s)
+    ∙ some_stands (drop before s) (omega arith)
     ∙ ap (λ l. not (all_zero l)) (ap (λ n. words_of (drop n s)) at ∙ ap words_of (sym (drop-drop (count * 4 * 2) 8 s)) ∙ words-drop (count * 4) (drop 8 s))
 
 -- ---- the tests of a sheet
