@@ -1,10 +1,8 @@
 -- What the computed test of a rising list gives at any two of its entries.
-use mathlib.Core.Path.{◌≡◌, ap}
+use mathlib.Core.Path.{◌≡◌}
 use mathlib.Core.Bool.{true}
-use mathlib.Core.Logic.{⊎_elim}
 use mathlib.Core.List.{List, [], ◌∷◌}
-use Prim.Native.Nat.{ℕ, zero, suc, ◌≤◌, ◌<◌}
-use native.Mathlib.Nat.{eq-or-lt_of_le}
+use Prim.Native.Nat.{ℕ, zero, suc, ◌<◌}
 use native.Mathlib.Omega.{arith}
 use borrow.Author.Tests.{ltb-true}
 use lib.Dec.{ltb}
@@ -23,9 +21,3 @@ rising (x ∷ y ∷ l) e zero (suc (suc j)) h k =
     let b = and_on (ltb x y) (rises (y ∷ l)) e in
     omega (arith, ltb-true x y b.0, rising (y ∷ l) b.1 zero (suc j) (omega arith) (omega arith))
 rising (x ∷ y ∷ l) e (suc i) (suc j) h k = rising (y ∷ l) (and_on (ltb x y) (rises (y ∷ l)) e).1 i j (omega arith) (omega arith)
-
--- of two entries the higher is the later
-pub later : (l : List ℕ) → rises l ≡ true → (i j : ℕ) → i < length l → get_or l i 0 < get_or l j 0 → i < j
-later l e i j h k =
-    let not-before : j ≤ i → ⊥ = λ q. ⊎_elim (λ same. omega (arith, ap (λ m. get_or l m 0) same)) (λ less. omega (arith, rising l e j i less h)) (eq-or-lt_of_le q) in
-    omega arith

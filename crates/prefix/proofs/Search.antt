@@ -1,4 +1,4 @@
--- A search by halves over any list of codes that rises.
+-- What a search of a table whose codes rise finds.
 use mathlib.Core.Path.{◌≡◌, refl, sym, ap, subst}
 use mathlib.Core.Bool.{Bool, true, false}
 use mathlib.Core.List.{List, [], ◌∷◌}
