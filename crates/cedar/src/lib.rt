@@ -5,13 +5,14 @@ ghost use Rattle.std.specs.Prelude.{[], ◌∷◌};
 ghost use Rattle.cedar.specs.Promises.{CedarJudges, CedarFindsPrefix, CedarWritesLines, CedarJudgesLines, CedarWritesBlock, CedarStartsSheet, CedarAmends, CedarUndoes, CedarRepacks};
 
 use sheet::Amendment;
+use units::Numbered;
 
 // Judges a block.
 pub fn cedar_judge(block: &[u8]) -> u64
     ensures { CedarJudges block.now result }
 {
     let judged = block::judge(block);
-    units::pack(block::numbers(judged))
+    units::pack(judged.numbers())
 }
 
 // Finds an instrument's prefix.
@@ -19,7 +20,7 @@ pub fn cedar_prefix(instrument: u16) -> u64
     ensures { CedarFindsPrefix instrument result }
 {
     let letters = prefix::prefix_of(instrument);
-    units::pack(prefix::numbers(letters))
+    units::pack(letters.numbers())
 }
 
 // Writes the lines of a block.
@@ -51,7 +52,7 @@ pub fn cedar_sheet_start(sheet: &mut [u8]) -> u64
     ensures { CedarStartsSheet sheet.old result sheet.new }
 {
     let opened = sheet::start(sheet);
-    units::pack(sheet::numbers(opened))
+    units::pack(opened.numbers())
 }
 
 // Amends a value of a block.
@@ -72,7 +73,7 @@ pub fn cedar_amend(
         new,
     };
     let amended = amending::amend(block, sheet, e);
-    units::pack(amending::numbers(amended))
+    units::pack(amended.numbers())
 }
 
 // Undoes the last amendment that stands.
@@ -80,7 +81,7 @@ pub fn cedar_undo(block: &mut [u8], sheet: &mut [u8]) -> u64
     ensures { CedarUndoes block.old sheet.old result block.new sheet.new }
 {
     let amended = amending::undo(block, sheet);
-    units::pack(amending::numbers(amended))
+    units::pack(amended.numbers())
 }
 
 // Packs blocks again.
