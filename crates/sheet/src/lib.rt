@@ -70,7 +70,7 @@ fn more_stands(sheet: &[u8], count: u16) -> bool
     ensures { result ≡ not (all_zero (drop (count * version1.words) (numbers_in sheet.now))) }
 {
     let before = units::bytes_of_words(before_entry(count)).0;
-    // Kept a fold to its end: `any` was tried, and takes 12 times the instructions, a byte at a time.
+    // Kept: or-ed to its end; `any` was tried, and takes 12 times the instructions, since it takes a byte at a time.
     sheet[before..].iter().fold(0, |seen, byte| seen | *byte) != 0
 }
 
