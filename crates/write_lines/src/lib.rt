@@ -38,6 +38,7 @@ fn count_shown(whole: &[u8]) -> u16
 }
 
 // Writes a Data record's lines.
+// Kept: `out` and `at` are two parameters, here and below: a struct that holds the lent output was tried in report, and each contract must then say besides that it is still the same slice.
 fn write_data(whole: &[u8], out: &mut [u8], at: Bytes) -> Bytes
     requires { Writable whole.now out.old at.0 × (word (words_of whole.now) 2 ≡ 1002) }
     ensures { Put out.old at.0 (ended (lines_of (words_of whole.now))) out.new result.0 }
