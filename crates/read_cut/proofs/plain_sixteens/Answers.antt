@@ -1,30 +1,14 @@
-use mathlib.Core.Path.{◌≡◌, refl, sym, ap, ◌∙◌}
-use mathlib.Core.Bool.{true}
-use mathlib.Core.List.{List}
-use Prim.Native.Nat.{ℕ, ◌+◌}
-use native.Mathlib.Omega.{arith}
-use borrow.Author.Tests.{leb-true}
-use lib.Dec.{leb}
-use lib.ListN.{drop}
-use lib.Seq.{drop-drop}
-use Rattle.words.specs.Scans.{within, plain_in}
-use Rattle.words.proofs.Scans.{scan_far}
+use Rattle.std.proofs.Common.{◌≡◌, ◌*◌, true, false, leb, rules, tests, sym, ap, ◌∙◌, map}
+use Rattle.std.proofs.lemmas.Iterator.{IsFirst-from_position, YieldsList-from_slice}
+use Rattle.words.specs.Scans.{plain_in, passing}
+use Rattle.words.proofs.Scans.{scan_found}
+use Rattle.read_cut.proofs.PlainBytes.{sixteens_on}
 use Rattle.read_cut.proofs.plain_sixteens.Goals as goal
 
--- a turn: the scan goes on behind sixteen
-sixteen-on : (text : List ℕ) (i : ℕ) → leb 16 (plain_in (drop i text)) ≡ true → i + plain_in (drop i text) ≡ i + 16 + plain_in (drop (i + 16) text)
-sixteen-on text i e = omega (arith, scan_far (within 32 126) (drop i text) 16 (leb-true 16 (plain_in (drop i text)) e), ap plain_in (drop-drop 16 i text))
-
-pub loop-i-init : goal.loop-i-init
-loop-i-init c = (refl, c.requires)
-
-pub returns-then-not-sixteen_plain : goal.returns-then-not-sixteen_plain
-returns-then-not-sixteen_plain c = c.loop-i.invariant
-
-pub loop-i-preserved : goal.loop-i-preserved
-loop-i-preserved c = let t = c.args.text.now in
-    let h = sixteen-on t c.loop-i.i (sym c.sixteen_plain.ensures ∙ c.if-not-sixteen_plain.false) in
-    (omega (arith, h, c.loop-i.invariant.0), omega arith)
-
 pub returns : goal.returns
-returns c = c.loop-i.invariant
+returns c = let text = c.args.text.now in let sixteens = c.as_chunks.result.0.now in
+    let first =
+    IsFirst-from_position _ _ _ (λ s. leb 16 (plain_in s) ≡ false) (λ s. leb 16 (plain_in s) ≡ true) c.position-found.ensures.ran
+    (YieldsList-from_slice sixteens c.iter.ensures.rest) (λ x q k. search (rules, tests)) (λ x q k. search (rules, tests)) in
+    let e = c.unwrap_or.ensures ∙ sym (scan_found (leb 16) plain_in sixteens c.position-found.result first) ∙ ap (λ l. passing (leb 16) (map plain_in l)) c.as_chunks.ensures.front in
+    sixteens_on text _ (ap (λ k. 16 * k) e)

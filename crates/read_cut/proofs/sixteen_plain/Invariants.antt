@@ -1,12 +1,6 @@
-use mathlib.Core.Path.{◌≡◌}
-use Prim.Native.Nat.{◌-◌, ◌≤◌}
-use lib.Dec.{leb}
-use lib.ListN.{drop}
+use Rattle.std.proofs.Common.{◌≡◌, leb}
 use Rattle.words.specs.Scans.{plain_in}
 use Rattle.read_cut.proofs.sixteen_plain.Given as goal
 
-abbrev pub invariant-loop-k : goal.invariant-loop-k
-invariant-loop-k l = (l.k ≤ 16) × (l.plain ≡ leb l.k (plain_in (drop l.at l.text)))
-
-abbrev pub decreases-loop-k : goal.decreases-loop-k
-decreases-loop-k l = 16 - l.k
+abbrev pub invariant-loop-b : goal.invariant-loop-b
+invariant-loop-b l = l.plain ≡ leb l.b-index (plain_in l.sixteen)
