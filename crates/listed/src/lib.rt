@@ -12,8 +12,7 @@ ghost use Rattle.report.specs.Text.{behind};
 ghost use Rattle.listed.specs.Listing.{signed_of, letters_of, front_of, row_of, rows_of};
 ghost use Rattle.listed.specs.Promises.{PrintsListing};
 
-use block::Judged;
-use units::{Bytes, Words};
+use units::{Bytes, Numbered, Words};
 
 // Bytes that suffice for any listing.
 pub const LISTING_BYTES: usize = 32768;
@@ -73,16 +72,12 @@ fn write_listing(block: &[u8], out: &mut [u8]) -> Bytes
     let mut at = 1;
     let mut number: u32 = 1;
     let mut to = Bytes(0);
-    loop {
-        let whole = block_steps::record_at(block, Words(at));
-        let n = words::count(whole).0;
-        if n == 0 {
-            return to;
-        }
+    for whole in block_steps::records(block) {
         to = write_row(number, Words(at), whole, out, to);
-        at += n;
+        at += words::count(whole).0;
         number += 1;
     }
+    to
 }
 
 // Puts the listing of a block, or the line of its refusal.
@@ -90,7 +85,7 @@ pub fn print_listing(block: &[u8], out: &mut [u8; LISTING_BYTES]) -> Bytes
     ensures { PrintsListing block.now out.old result.0 out.new }
 {
     match block::judge(block) {
-        Judged::Records(_) => write_listing(block, out),
-        Judged::Refused(r) => report::write_refusal(block::refusal_numbers(r), out, Bytes(0)),
+        Ok(_) => write_listing(block, out),
+        Err(refusal) => report::write_refusal(refusal.numbers(), out, Bytes(0)),
     }
 }

@@ -1,6 +1,8 @@
 -- What the programs print, but for the listing: the text of a block, the size of a text's block or the block itself, or blocks packed again; or, as the listing has it, the line of a refusal.
-use Rattle.std.specs.Prelude.{ℕ, ◌≤◌, ◌≡◌, List, [], ◌∷◌, length, take}
+use Rattle.std.specs.Prelude.{ℕ, ◌≤◌, ◌≡◌, List, [], ◌∷◌, length, take, Result, Ok, Err}
 use Rattle.units.specs.declared.Answer.{Answer}
+use Rattle.units.specs.declared.Bytes.{Bytes}
+use Rattle.units.specs.declared.Unwritten.{Unwritten}
 use Rattle.words.specs.Words.{block_from}
 use Rattle.words.specs.Writing.{Put}
 use Rattle.block.specs.Judging.{judged}
@@ -20,10 +22,10 @@ pub record Printed (before text after : List ℕ) (end : ℕ) : Type 0 where
   pub within : end ≤ length after
   pub counted : end ≡ length (take end after)
 
--- a call answered so, and what it wrote ends here; or it refused, and the line of that was put
-pub record EndOrRefusal (told : Answer) (before after : List ℕ) (end : ℕ) : Type 0 where
-  pub wrote : told.n ≡ 0 → (after ≡ before) × (end ≡ told.a)
-  pub refusal : (told.n ≡ 0 → ⊥) → Put before 0 (refusal_line told) after end
+-- a call returned this, and what it wrote ends here; or it wrote nothing, and the line that tells why was put
+abbrev pub EndOrRefusal : {R : Type 0} → Answer → Result Bytes (Unwritten R) → List ℕ → List ℕ → ℕ → Type 0
+EndOrRefusal told (Ok size) before after end = (after ≡ before) × (end ≡ size.0)
+EndOrRefusal told (Err why) before after end = Put before 0 (refusal_line told) after end
 
 -- "A block's text is its records' lines in order"
 abbrev pub lines_printed : List ℕ → List ℕ

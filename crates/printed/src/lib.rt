@@ -2,6 +2,7 @@
 #![tactic(auto)]
 
 ghost use Rattle.std.specs.Prelude.{[], ◌∷◌, ◌≤◌, length};
+ghost use Rattle.units.specs.Answers.{fitted, written_of};
 ghost use Rattle.words.specs.Writing.{Room, Put};
 ghost use Rattle.report.specs.Text.{line_of};
 ghost use Rattle.report.specs.Decimal.{decimal_of};
@@ -9,8 +10,7 @@ ghost use Rattle.report.specs.Refusal.{longest_refusal};
 ghost use Rattle.printed.specs.Printed.{EndOrRefusal};
 ghost use Rattle.printed.specs.Promises.{PrintsLines, PrintsSize, PrintsBlock, PrintsBlocks};
 
-use block::Judged;
-use units::{Answer, Bytes};
+use units::{Bytes, Numbered, Unwritten};
 
 // Bytes that suffice for the lines of any block.
 pub const TEXT_BYTES: usize = 55971;
@@ -23,16 +23,6 @@ pub const BLOCK_BYTES: usize = 16000;
 
 // For the blocks of any slice, packed again: they are never longer than it.
 pub const SLICE_BYTES: usize = 64000;
-
-// Writes the lines of a block, or the line of its refusal.
-pub fn print_lines(block: &[u8], out: &mut [u8; TEXT_BYTES]) -> Bytes
-    ensures { PrintsLines block.now out.old result.0 out.new }
-{
-    match block::judge(block) {
-        Judged::Records(_) => write_lines::write_records(block, out),
-        Judged::Refused(r) => report::write_refusal(block::refusal_numbers(r), out, Bytes(0)),
-    }
-}
 
 // Puts a number as a line.
 fn write_line(n: u32, out: &mut [u8]) -> Bytes
@@ -48,39 +38,46 @@ pub fn print_size(text: &[u8], out: &mut [u8; SIZE_BYTES]) -> Bytes
     ensures { PrintsSize text.now out.old result.0 out.new }
 {
     match read_text::judge_lines(text) {
-        read_text::Judged::Size(size) => write_line(size.0 as u32, out),
-        read_text::Judged::Flawed(f) => report::write_refusal(
-            read_columns::numbers(f),
-            out,
-            Bytes(0),
-        ),
+        Ok(size) => write_line(size.0 as u32, out),
+        Err(flaw) => report::write_refusal(flaw.numbers(), out, Bytes(0)),
     }
 }
 
-// Gives the end of what a call has written, by its answer; for a refusal, which wrote nothing, puts its line and gives the end of that.
-fn end_or_refusal(told: Answer, out: &mut [u8]) -> Bytes
+// Gives the end of what a conversion has written; where it has written nothing, puts the line that says why, and gives the end of that.
+fn end_or_refusal<R: Numbered>(
+    found: Result<Bytes, Unwritten<R>>,
+    short: u8,
+    out: &mut [u8],
+) -> Bytes
     requires { longest_refusal ≤ length out.old }
-    ensures { EndOrRefusal told out.old out.new result.0 }
+    ensures { EndOrRefusal (fitted (written_of short R.numbers_of found)) found out.old out.new result.0 }
 {
-    if told.n == 0 {
-        let size = told.a as usize;
-        return Bytes(size);
+    match found {
+        Ok(end) => end,
+        Err(why) => report::write_refusal(units::written(short, Err(why)), out, Bytes(0)),
     }
-    report::write_refusal(told, out, Bytes(0))
+}
+
+// Writes the lines of a block, or the line of its refusal.
+pub fn print_lines(block: &[u8], out: &mut [u8; TEXT_BYTES]) -> Bytes
+    ensures { PrintsLines block.now out.old result.0 out.new }
+{
+    let found = write_lines::to_lines(block, out);
+    end_or_refusal(found, 29, out)
 }
 
 // Writes the block of a text, or the line of its refusal.
 pub fn print_block(text: &[u8], out: &mut [u8; BLOCK_BYTES]) -> Bytes
     ensures { PrintsBlock text.now out.old result.0 out.new }
 {
-    let told = read_text::built_numbers(read_text::write_block(text, out));
-    end_or_refusal(told, out)
+    let found = read_text::write_block(text, out);
+    end_or_refusal(found, 29, out)
 }
 
 // Writes the blocks of a slice packed again, or the line of its refusal.
 pub fn print_blocks(slice: &[u8], out: &mut [u8; SLICE_BYTES]) -> Bytes
     ensures { PrintsBlocks slice.now out.old result.0 out.new }
 {
-    let told = repacking::numbers(repacking::repack(slice, out));
-    end_or_refusal(told, out)
+    let found = repacking::repack(slice, out);
+    end_or_refusal(found, 50, out)
 }

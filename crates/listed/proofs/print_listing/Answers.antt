@@ -16,20 +16,20 @@ room b out h sized = omega (arith, listing_bound b h)
 pub write_listing-requires : goal.write_listing-requires
 write_listing-requires c =
     let b = c.args.block.now in
-    let p = accepted_prints _ _ (room b c.args.out.now (all_below 256 b (λ i. omega (arith, c.type_inv.block i))) (omega arith)) c.judge.ensures c.in-Records.is in
+    let p = accepted_prints _ _ (room b c.args.out.now (all_below 256 b (λ i. omega (arith, c.type_inv.block i))) (omega arith)) c.judge.ensures c.in-Ok.is in
     (p.0, p.1.room)
 
 pub write_refusal-requires : goal.write_refusal-requires
 write_refusal-requires c =
     let b = c.args.block.now in
-    (refused_prints _ _ (room b c.args.out.now (all_below 256 b (λ i. omega (arith, c.type_inv.block i))) (omega arith)) c.judge.ensures c.in-Refused.is c.refusal_numbers.ensures.0).room
+    (refused_prints _ _ (room b c.args.out.now (all_below 256 b (λ i. omega (arith, c.type_inv.block i))) (omega arith)) c.judge.ensures c.in-Err.is c.numbers.ensures.0).room
 
-pub returns-in-Records : goal.returns-in-Records
-returns-in-Records c =
+pub returns-in-Ok : goal.returns-in-Ok
+returns-in-Ok c =
     let b = c.args.block.now in
-    (accepted_prints _ _ (room b c.args.out.now (all_below 256 b (λ i. omega (arith, c.type_inv.block i))) (omega arith)) c.judge.ensures c.in-Records.is).1.printed c.write_listing.ensures
+    (accepted_prints _ _ (room b c.args.out.now (all_below 256 b (λ i. omega (arith, c.type_inv.block i))) (omega arith)) c.judge.ensures c.in-Ok.is).1.printed c.write_listing.ensures
 
-pub returns-in-Refused : goal.returns-in-Refused
-returns-in-Refused c =
+pub returns-in-Err : goal.returns-in-Err
+returns-in-Err c =
     let b = c.args.block.now in
-    (refused_prints _ _ (room b c.args.out.now (all_below 256 b (λ i. omega (arith, c.type_inv.block i))) (omega arith)) c.judge.ensures c.in-Refused.is c.refusal_numbers.ensures.0).printed c.write_refusal.ensures
+    (refused_prints _ _ (room b c.args.out.now (all_below 256 b (λ i. omega (arith, c.type_inv.block i))) (omega arith)) c.judge.ensures c.in-Err.is c.numbers.ensures.0).printed c.write_refusal.ensures

@@ -1,18 +1,16 @@
-use Rattle.std.proofs.Common.{List, ℕ, ◌-◌, ◌≤◌, length}
-use Rattle.words.specs.Words.{words_of}
+use Rattle.std.proofs.Common.{List, ℕ, ◌+◌, ◌<◌, ◌≤◌, length}
+use Rattle.words.specs.Words.{joined, most_words}
 use Rattle.words.proofs.Writing.{Going}
 use Rattle.block.specs.Records.{records_of}
-use Rattle.block_steps.proofs.Loops.{Loop}
+use Rattle.block_steps.proofs.Turns.{Loop}
 use Rattle.listed.specs.Listing.{rows_of}
 use Rattle.listed.proofs.write_listing.Given as goal
 
 -- the lines of the records that are left are still to be put
 pub record Rows (block before out : List ℕ) (at number to : ℕ) (rs : List (List ℕ)) : Type 0 where
   pub few : number ≤ at
+  pub within : at + length (joined rs) < most_words
   pub going : Going before 0 (rows_of 1 1 (records_of block)) out to (rows_of number at rs)
 
 abbrev pub invariant-loop-whole : goal.invariant-loop-whole
-invariant-loop-whole l = Loop l.block l.at (Rows l.block l.initial.out l.out l.at l.number l.to.0)
-
-abbrev pub decreases-loop-whole : goal.decreases-loop-whole
-decreases-loop-whole l = length (words_of l.block) - l.at
+invariant-loop-whole l = Loop l.whole-iterator (Rows l.block l.initial.out l.out l.at l.number l.to.0)
