@@ -44,9 +44,6 @@ loop-whole-preserved c = let t = turn c.loop-whole.invariant _ _ c.next.ensures.
       going = on t.holds.going _ _ (rows_on _ _ _ _ _ c.count-at.ensures) c.write_row-to.ensures;
     })
 
-pub shape_of-out : goal.shape_of-out
-shape_of-out c = c.loop-whole.invariant.holds.going.kept
-
 pub returns : goal.returns
 unfolding rows_of
 returns c = done (loop_end c.loop-whole.invariant _ _ c.next.ensures.steps c.in-None.is).going refl

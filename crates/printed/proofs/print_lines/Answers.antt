@@ -1,4 +1,3 @@
-use mathlib.Core.Path.{◌∙◌}
 use native.Mathlib.Omega.{arith}
 use Rattle.units.proofs.Packing.{fitted_is}
 use Rattle.words.proofs.Laws.{all_below}

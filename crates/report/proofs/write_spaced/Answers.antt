@@ -31,9 +31,6 @@ pub loop-n-preserved : goal.loop-n-preserved
 loop-n-preserved c = let l = c.loop-n in
     on (space-put c.args.numbers.now l.n-index (omega arith) l.invariant) _ _ refl c.write_number-to.ensures
 
-pub shape_of-out : goal.shape_of-out
-shape_of-out c = c.loop-n.invariant.kept
-
 pub returns : goal.returns
 unfolding spaced
 returns c = done c.loop-n.invariant (ap spaced (drop_of_length-le c.args.numbers.now {i = c.loop-n.n-index} (omega arith)))

@@ -76,8 +76,5 @@ loop-k-preserved c = let b = c.args.whole.now in
     let going = on c.loop-k.invariant _ _ (turn b c.args.from.0 c.loop-k.k c.args.cards.0 (omega arith) (all_below 256 b (λ i. omega (arith, c.type_inv.whole i))) (omega (arith, c.requires.0)) c.span-card.ensures) c.write_bytes-end.ensures in
     on going (10 ∷ []) (others b c.args.from.0 c.loop-k.k c.args.cards.0) refl (byte_put _ _ 10)
 
-pub shape_of-out : goal.shape_of-out
-shape_of-out c = c.loop-k.invariant.kept
-
 pub returns : goal.returns
 returns c = done c.loop-k.invariant (no_cards (drop (c.args.from.0 + 40 * c.loop-k.k) (words_of c.args.whole.now)) (c.args.cards.0 - c.loop-k.k) (omega arith))

@@ -25,8 +25,5 @@ pub loop-word-preserved : goal.loop-word-preserved
 loop-word-preserved c = let l = c.loop-word in
     on l.invariant (field_of c.from_be_bytes.result) _ (fields_turn c.args.words.now l.word-index c.from_be_bytes.result [] (omega arith) c.from_be_bytes.ensures) (field_put _ _ _ c.write_field.ensures)
 
-pub shape_of-out : goal.shape_of-out
-shape_of-out c = c.loop-word.invariant.kept
-
 pub returns : goal.returns
 returns c = done c.loop-word.invariant (no_fields (pair_words c.args.words.now) c.loop-word.word-index (omega (arith, length-map c.args.words.now (from_be_bytes w16))))

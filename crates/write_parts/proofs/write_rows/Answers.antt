@@ -60,9 +60,6 @@ loop-row-preserved g c = let i = c.loop-row.invariant in
       },
     )
 
-pub shape_of-out : goal.shape_of-out
-shape_of-out g c = c.loop-row.invariant.1.going.kept
-
 pub returns : goal.returns
 returns g c = let s = rw c.in-None.is at c.next.ensures.steps in
     let i = c.loop-row.invariant in
