@@ -1,13 +1,13 @@
 -- The columns of a line, those that it lacks among them.
-use mathlib.Core.Path.{◌≡◌, refl, sym, ap, ◌∙◌}
+use mathlib.Core.Path.{◌≡◌, refl, ap, ◌∙◌}
 use mathlib.Core.Bool.{Bool, true, false}
 use mathlib.Core.List.{List, ◌∷◌, ◌++◌, append-nil}
-use Prim.Native.Nat.{ℕ, zero, suc, ◌+◌, ◌-◌, ◌≤◌, ◌<◌}
+use Prim.Native.Nat.{ℕ, zero, suc, ◌+◌, ◌-◌, ◌≤◌}
 use native.Mathlib.Omega.{arith}
-use borrow.Author.Tests.{ltb-true, ltb-false, lt-ltb, le-ltb}
+use borrow.Author.Tests.{ltb-true, ltb-false, le-ltb}
 use lib.Dec.{ltb}
 use Rattle.units.specs.Units.{Line}
-use Rattle.units.specs.Answers.{answer, passed, refused}
+use Rattle.units.specs.Answers.{passed}
 use Rattle.read_columns.specs.Columns.{right_to}
 use lib.ListN.{length, get_or, take, drop, replicate, drop_of_length-le, get_or-eq_default}
 use lib.Seq.{drop-cons, take-nil}
@@ -53,12 +53,7 @@ columns-all P o n l k h = part-columns P n l k o (all_take P n (drop k l) (all_d
 pub columns_full : (n : ℕ) (l : List ℕ) (k : ℕ) → k + n ≤ length l → columns n l k ≡ take n (drop k l)
 columns_full n l k h = let e : n - (length l - k) ≡ 0 = omega arith in columns_are n l k ∙ rw e (append-nil (take n (drop k l)))
 
--- the first c columns are right: the next one is not there, or wrong
-module _ (n num : ℕ) (l : Line) (c : ℕ) where
-  pub right_to_lem : length l ≤ c → passed tt ≡ right_to n num l c
-  unfolding right_to
-  right_to_lem h = simp (le-ltb c (length l) h)
-
-  pub wrong_at : (k : ℕ) → k ≡ c → k < length l → refused (answer n num (k + 1) 0) ≡ right_to n num l c
-  unfolding right_to
-  wrong_at k e h = rw (sym e) (simp (lt-ltb k (length l) h))
+-- the first c columns are right, and there is no next one
+pub right_to_lem : (n num : ℕ) (l : Line) (c : ℕ) → length l ≤ c → passed tt ≡ right_to n num l c
+unfolding right_to
+right_to_lem n num l c h = simp (le-ltb c (length l) h)

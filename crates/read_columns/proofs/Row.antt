@@ -1,34 +1,21 @@
 -- Reading number fields into a row, field by field: what is still to be read, from here, gives the whole.
 use mathlib.Core.Path.{◌≡◌, refl, sym, ap, ◌∙◌}
 use mathlib.Core.List.{List, [], ◌∷◌, ◌++◌, append_assoc, append-nil}
-use Prim.Native.Nat.{ℕ, suc, ◌+◌, ◌-◌, ◌*◌, ◌≤◌, ◌<◌}
+use Prim.Native.Nat.{ℕ, suc, ◌+◌, ◌-◌, ◌≤◌, ◌<◌}
 use native.Mathlib.Nat.{add-sub_cancel_left}
 use native.Mathlib.Numerals.{add-one}
 use native.Mathlib.Omega.{arith}
 use lib.ListN.{length, take, set, length-set}
 use lib.Seq.{take-suc-set}
-use Rattle.std.specs.Prelude.{Option, Some, None, Result, Ok, Err, ok_or}
+use Rattle.std.specs.Prelude.{Result, Ok, Err}
 use Rattle.units.specs.Answers.{Verdict, passed, refused, onward}
-use Rattle.units.specs.declared.Lines.{Lines}
-use Rattle.units.specs.declared.Bytes.{Bytes}
-use Rattle.field.specs.Reading.{read_field, columns}
 use Rattle.read_columns.specs.declared.Flaw.{Flaw}
-use Rattle.read_columns.specs.declared.Flaw.TheVariants.{Field}
 use Rattle.read_columns.specs.Cases.{flaw_of, read_of}
-use Rattle.read_columns.specs.Columns.{column_of, word_in, number, field_numbers}
+use Rattle.read_columns.specs.Columns.{number, field_numbers}
 
 -- the fields from field k on, put behind the k first words of a row
 unfoldable pub filled : ℕ → List ℕ → ℕ → ℕ → List ℕ → Verdict (List ℕ)
 filled num l k m row = onward (field_numbers num l k m) (λ ws. passed (take k row ++ ws))
-
--- the field behind `at` columns holds this number, or none
-pub number_read : (num : Lines) (l : List ℕ) (k : ℕ) (w : Option ℕ) {at : ℕ} {column : Bytes} {r : Result ℕ Flaw} → at ≡ 6 * k → w ≡ read_field (columns 6 l at) → column.0 ≡ column_of k → r ≡ ok_or w (Field num column) → read_of r ≡ number num.0 l k
-unfolding number
-number_read num l k w {at = at} {column = column} {r = r} e read c told = ap read_of told ∙ by w column.0 c ∙ ap (word_in num.0 k) (rw e at read)
-  where
-    by : (w : Option ℕ) (n : ℕ) → n ≡ column_of k → read_of (ok_or w (Field num (record { 0 = n }))) ≡ word_in num.0 k w
-    by (Some w) n c = refl
-    by None n c = rw c
 
 -- where the loop stands: the fields from field k on give what those from `from` on do
 pub record Filling (num : ℕ) (l row₀ : List ℕ) (from end k : ℕ) (row : List ℕ) : Type 0 where

@@ -97,6 +97,7 @@ impl<'a> Line<'a> {
     }
 
     // The columns after the first `from` must be blank.
+    #[tactic(auto, unfolding(crate::specs::Columns::blank_after, crate::specs::Columns::right_to))]
     pub fn blank_after(self, from: Bytes) -> Result<(), Flaw>
         ensures { tested_of tt result ≡ blank_after self.entry.num.0 self.entry.text.now from.0 }
     {
@@ -117,6 +118,7 @@ impl<'a> Line<'a> {
 
     // The number in the field with k fields before it. Inlined: a call of its own would hand each number on through memory.
     #[inline(always)]
+    #[tactic(auto, unfolding(crate::specs::Columns::number))]
     fn number(self, k: Words) -> Result<u16, Flaw>
         requires { k.0 ≤ 20 }
         ensures { read_of result ≡ number self.entry.num.0 self.entry.text.now k.0 }
@@ -147,6 +149,7 @@ impl<'a> Line<'a> {
     }
 
     // A field that must be 0, or blank, which means 0.
+    #[tactic(auto, unfolding(crate::specs::Columns::zero_field))]
     fn zero_field(self, k: Words) -> Result<(), Flaw>
         requires { k.0 ≤ 20 }
         ensures { tested_of tt result ≡ zero_field self.entry.num.0 self.entry.text.now k.0 }

@@ -1,22 +1,14 @@
 -- A record's first line, over the row that its fields were read into.
 use mathlib.Core.Path.{◌≡◌, sym, ap, ◌∙◌}
-use mathlib.Core.Bool.{◌||◌}
 use mathlib.Core.List.{List, [], ◌∷◌, ◌++◌}
-use Prim.Native.Nat.{ℕ, suc, ◌+◌, ◌-◌, ◌*◌, ◌≤◌}
+use Prim.Native.Nat.{ℕ, suc, ◌+◌, ◌-◌, ◌*◌}
 use native.Mathlib.Omega.{arith}
-use borrow.Author.Tests.{ltb-false}
-use lib.Dec.{ltb}
 use lib.ListN.{length, drop, replicate, length-drop}
 use lib.Seq.{sets, slice, take_all}
-use Rattle.units.specs.Answers.{answer, passed}
-use Rattle.units.proofs.Verdicts.{else_passed, or_off}
-use Rattle.counts.specs.declared.Counts.{Counts}
-use Rattle.words.specs.Words.{bytes_of, most_record_words}
+use Rattle.words.specs.Words.{bytes_of}
 use Rattle.words.proofs.Laws.{bytes_append, length_bytes_of, zero_bytes}
 use Rattle.words.proofs.Writing.{sets-append}
-use Rattle.counts.specs.Counts.{words_needed}
-use Rattle.read_first_line.specs.FirstLine.{cards_room, data_room}
-use Rattle.read_first_line.specs.State.{put, LentCards, CardLines}
+use Rattle.read_first_line.specs.State.{put, LentCards}
 
 -- words that are put one after the other
 pub put-append : (held : ℕ) (block ws vs : List ℕ) → put held block (ws ++ vs) ≡ put (held + length ws) (put held block ws) vs
@@ -42,15 +34,3 @@ head-filled row held total kind at size b b₁ b₂ l first is all last =
     let head = total ∷ (kind ∷ drop 2 row) in
     let to : at ≡ (held + length head + 1) * 2 = omega (arith, length-drop 2 row, l.two) in
     last ∙ rw (to, all, sym (zero_bytes (40 - length row)), first) (sym (put-append held b head (replicate (40 - length row) 0)))
-
--- where there is room for a Data record, it is small
-pub room_most : (num held lines : ℕ) (c : Counts) → passed tt ≡ data_room num held lines c → held + words_needed c ≤ most_record_words
-unfolding data_room
-room_most num held lines c e = ltb-false most_record_words (held + words_needed c) (else_passed (ltb most_record_words (held + words_needed c)) (answer 28 num 1 0) _ tt (sym e)).0
-
--- where there is room for cards, their count is small
-pub cards_most : (num held lines : ℕ) → passed tt ≡ cards_room num held lines → CardLines lines
-unfolding cards_room
-cards_most num held lines e =
-    let o = or_off (ltb lines 1) _ (else_passed (ltb lines 1 || ltb 199 lines) (answer 24 num 1 0) _ tt (sym e)).0 in
-    record { one = ltb-false lines 1 o.0; most = ltb-false 199 lines o.1 }

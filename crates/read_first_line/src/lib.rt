@@ -32,6 +32,7 @@ pub struct Rest {
 }
 
 // Between two lines: what is to come, and the record words so far.
+// Kept: that `held` leaves its count in range is what `first_line` and `read_line` require, and no invariant of the type.
 #[derive(Clone, Copy)]
 pub struct Next {
     pub rest: Rest,
@@ -39,6 +40,7 @@ pub struct Next {
 }
 
 // `cards` cards are to come.
+#[tactic(auto, unfolding(crate::specs::State::lines_left, crate::specs::State::to_come, line_plan::specs::Plan::part, line_plan::specs::Plan::times))]
 pub fn cards_only(cards: Lines) -> Rest
     ensures { to_come result ≡ replicate cards.0 card }
 {
@@ -208,6 +210,7 @@ fn put_cards(kind: Kind, held: Words, row: &[u16], block: &mut [u8]) -> Next
 }
 
 // A Catalogue or a Header, of whose fields those in the row count.
+#[tactic(auto, unfolding(crate::specs::FirstLine::cards_room))]
 fn cards_line(
     num: Lines,
     held: Words,
@@ -239,6 +242,7 @@ fn data_room(num: Lines, held: Words, lines: u16, c: Counts) -> Result<(), Flaw>
 }
 
 // What is to come of a Data record after the fields of its first line.
+#[tactic(auto, using(crate::proofs::Coming::plan_less), unfolding(crate::specs::State::lines_left, crate::specs::State::to_come))]
 fn behind_first(used: usize, c: Counts) -> Rest
     requires { (used ≡ min c.lprol 20) × (0 < c.lprol) }
     ensures { to_come result ≡ map fields (drop 1 (plan c)) }
@@ -274,6 +278,7 @@ fn put_data(held: Words, row: &[u16], block: &mut [u8]) -> Next
 }
 
 // A Data record whose counts are in range.
+#[tactic(auto, unfolding(crate::specs::FirstLine::data_room))]
 fn data_line(num: Lines, held: Words, row: &[u16], block: &mut [u8]) -> Result<Next, Flaw>
     requires { LentData row.now held.0 }
     ensures { Moved held.0 block.old (head_line num.0 held.0 (counts row.now)) block.new result }

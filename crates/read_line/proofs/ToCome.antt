@@ -1,5 +1,5 @@
 -- The lines to come of a record, as they get fewer.
-use mathlib.Core.Path.{◌≡◌, refl, sym, ap, ap₂, ◌∙◌}
+use mathlib.Core.Path.{◌≡◌, refl, sym, ap, ap₂}
 use mathlib.Core.List.{List, [], ◌∷◌, ◌++◌, map, append_assoc}
 use mathlib.Core.Logic.{◌⊎◌, inl, inr}
 use Prim.Native.Nat.{ℕ, zero, suc, ◌-◌, ◌≤◌, ◌<◌, min}
@@ -12,17 +12,21 @@ use Rattle.read_first_line.specs.State.{lines_of, lines_left, to_come}
 use Rattle.read_first_line.proofs.Coming.{line_less}
 
 -- parts without fields take no lines
-pub times_none : (n w : ℕ) → w ≡ 0 → times n (part w) ≡ []
+times_none : (n w : ℕ) → w ≡ 0 → times n (part w) ≡ []
 unfolding times part
 times_none zero w e = refl
 times_none (suc n) w e = rw e (times_none n 0 refl)
 
--- the next of some parts begins
-pub one_begins : (n w : ℕ) → 0 < n → times n (part w) ≡ part w ++ times (n - 1) (part w)
+times_zero : (n w : ℕ) → n ≡ 0 → times n (part w) ≡ []
 unfolding times
-one_begins n w h = let s : n ≡ suc (n - 1) = omega arith in ap (λ k. times k (part w)) s
+times_zero n w e = rw e
 
--- so it does where the present part is used up: it is a 1-D part,
+-- no parts, or parts without fields
+pub no_lines : (n w : ℕ) → (0 < n × w ≤ 0) ⊎ n ≤ 0 → times n (part w) ≡ []
+no_lines n w (inl h) = times_none n w (omega arith)
+no_lines n w (inr h) = times_zero n w (omega arith)
+
+-- where the present part is used up, the next one is a 1-D part,
 pub next_single : (left w : ℕ) (singles more rows : List ℕ) → left ≡ 0 → singles ≡ part w ++ more → part w ++ (more ++ rows) ≡ part left ++ (singles ++ rows)
 unfolding part
 next_single left w singles more rows e b = rw (e, b) (sym (append_assoc (part w) more rows))
@@ -36,10 +40,6 @@ next_row left w singles rows more e none b = rw (e, none, b)
 pub no_parts : (left : ℕ) {singles rows : List ℕ} → left ≡ 0 → singles ≡ [] → rows ≡ [] → part left ++ (singles ++ rows) ≡ []
 unfolding part
 no_parts left e s r = rw (e, s, r)
-
-pub times_zero : (n w : ℕ) → n ≡ 0 → times n (part w) ≡ []
-unfolding times
-times_zero n w e = rw e
 
 pub none_to_come : (p : Rest) → p.cards.0 ≡ 0 → lines_left p ≡ [] → to_come p ≡ []
 unfolding to_come
@@ -56,8 +56,3 @@ pub fields_less : (p : Rest) → p.cards.0 ≡ 0 → 0 < p.left.0 →
     to_come p ≡ fields n ∷ map fields (part (p.left.0 - n) ++ (lines_of p.singles ++ lines_of p.rows))
 unfolding to_come lines_left
 fields_less p e h = ap₂ (λ n ls. replicate n card ++ map fields ls) e (line_less p.left.0 (lines_of p.singles ++ lines_of p.rows) h)
-
--- no parts, or parts without fields
-pub no_lines : (n w : ℕ) → (0 < n × w ≤ 0) ⊎ n ≤ 0 → times n (part w) ≡ []
-no_lines n w (inl h) = times_none n w (omega arith)
-no_lines n w (inr h) = times_zero n w (omega arith)

@@ -17,6 +17,7 @@ use read_first_line::{Next, Parts, Rest};
 use units::{Bytes, Lines, Words};
 
 // The parts behind the next one that has fields, if one has.
+#[tactic(auto, unfolding(line_plan::specs::Plan::times, line_plan::specs::Plan::part))]
 fn begun(parts: Parts) -> Option<Parts>
     ensures { MatchOption result (lines_of parts ≡ []) (λ more. (lines_of parts ≡ part more.width.0 ++ lines_of more) × (0 < more.width.0)) }
 {
@@ -66,7 +67,7 @@ fn put_card(text: &[u8], held: Words, block: &mut [u8])
 }
 
 // A card.
-#[tactic(auto, unfolding(crate::specs::Lines::in_state))]
+#[tactic(auto, using(crate::proofs::ToCome::card_less, crate::proofs::Later::card_size), unfolding(crate::specs::Lines::in_state))]
 fn card_line(at: Next, line: Line, block: &mut [u8]) -> Result<Next, Flaw>
     requires { (0 < at.rest.cards.0) × Lent at.held.0 }
     ensures { Moved at.held.0 block.old (in_state line.entry.num.0 at.held.0 (to_come at.rest) line.entry.text.now) block.new result }
@@ -80,6 +81,7 @@ fn card_line(at: Next, line: Line, block: &mut [u8]) -> Result<Next, Flaw>
 }
 
 // What is to come after a card.
+#[tactic(auto, unfolding(read_first_line::specs::State::lines_left, read_first_line::specs::State::to_come))]
 fn one_card_less(p: Rest) -> Rest
     requires { 0 < p.cards.0 }
     ensures { to_come p ≡ card ∷ to_come result }
@@ -101,7 +103,7 @@ fn later_fields(count: Words, line: Line, row: &mut [u16; 20]) -> Result<(), Fla
 }
 
 // A later line of a Data record.
-#[tactic(auto, unfolding(crate::specs::Lines::in_state))]
+#[tactic(auto, using(crate::proofs::ToCome::fields_less), unfolding(crate::specs::Lines::in_state))]
 fn fields_line(at: Next, line: Line, row: &mut [u16; 20], block: &mut [u8]) -> Result<Next, Flaw>
     requires { FieldsNext at.rest × Lent at.held.0 }
     ensures { Moved at.held.0 block.old (in_state line.entry.num.0 at.held.0 (to_come at.rest) line.entry.text.now) block.new result }
@@ -117,6 +119,7 @@ fn fields_line(at: Next, line: Line, row: &mut [u16; 20], block: &mut [u8]) -> R
 }
 
 // What is to come after a line of the present part.
+#[tactic(auto, using(crate::proofs::ToCome::fields_less), unfolding(read_first_line::specs::State::lines_left, read_first_line::specs::State::to_come))]
 fn one_line_less(p: Rest, count: Words) -> Rest
     requires { FieldsNext p × (count.0 ≡ min p.left.0 20) }
     ensures { to_come p ≡ fields count.0 ∷ to_come result }
@@ -128,7 +131,7 @@ fn one_line_less(p: Rest, count: Words) -> Rest
 }
 
 // A line where a record may begin: a blank one, or a record's first.
-#[tactic(auto, unfolding(crate::specs::Lines::in_state))]
+#[tactic(auto, unfolding(crate::specs::Lines::in_state, words::specs::Words::bytes_of))]
 fn between(at: Next, line: Line, row: &mut [u16; 20], block: &mut [u8]) -> Result<Next, Flaw>
     requires { (to_come at.rest ≡ []) × Lent at.held.0 }
     ensures { Moved at.held.0 block.old (in_state line.entry.num.0 at.held.0 [] line.entry.text.now) block.new result }
@@ -140,6 +143,7 @@ fn between(at: Next, line: Line, row: &mut [u16; 20], block: &mut [u8]) -> Resul
 }
 
 // Any line that row 20 accepts.
+#[tactic(auto, using(crate::proofs::Later::nothing_left))]
 fn by_rest(at: Next, line: Line, row: &mut [u16; 20], block: &mut [u8]) -> Result<Next, Flaw>
     requires { Lent at.held.0 }
     ensures { Moved at.held.0 block.old (in_state line.entry.num.0 at.held.0 (to_come at.rest) line.entry.text.now) block.new result }
@@ -156,6 +160,8 @@ fn by_rest(at: Next, line: Line, row: &mut [u16; 20], block: &mut [u8]) -> Resul
 }
 
 // Any line, which begins with `plain` plain bytes.
+// Kept: `plain` is a parameter and no field of `Line`: that it counts the line's plain bytes is what this and `plain_to` require, and no invariant of the type.
+#[tactic(auto, unfolding(crate::specs::Lines::read_line, read_columns::specs::Columns::plain_line, read_columns::specs::Columns::right_to))]
 pub fn read_line(
     at: Next,
     line: Line,
