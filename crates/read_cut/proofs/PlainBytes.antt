@@ -1,6 +1,5 @@
 -- The plain bytes that a text begins with.
-use Rattle.std.proofs.Common.{◌≡◌, ℕ, zero, suc, ◌+◌, ◌*◌, ◌/◌, ◌<◌, ◌≤◌, Bool, ◌&&◌, leb, List, length, get_or, map, take, drop, ◌-◌, sym, ap, arith, leb-true}
-use Rattle.std.proofs.lemmas.List.{take_rest}
+use Rattle.std.proofs.Common.{◌≡◌, ℕ, zero, suc, ◌+◌, ◌*◌, ◌/◌, ◌<◌, ◌≤◌, Bool, ◌&&◌, leb, List, length, get_or, map, take, drop, sym, arith, leb-true}
 use Rattle.std.specs.Simd.{first_chunks}
 use Rattle.units.proofs.Choosing.{by_test}
 use Rattle.words.specs.Scans.{passing, within, plain_in}
@@ -23,13 +22,3 @@ sixteens_plain (suc k) l =
 
 pub sixteens_on : (l : List ℕ) (n : ℕ) → n ≡ 16 * passing (leb 16) (map plain_in (first_chunks 16 (length l / 16) l)) → PlainOn l 0 n × (n ≤ length l)
 sixteens_on l n e = let h : n ≤ plain_in l = omega (arith, sixteens_plain (length l / 16) l) in (omega (arith, scan_far (within 32 126) l n h), omega (arith, scan_le (within 32 126) l))
-
--- of the first eight bytes some are not plain
-pub first_only : (l eight : List ℕ) (first : ℕ) → eight ≡ take 8 l → first ≡ plain_in eight → first < 8 → first ≡ plain_in l
-first_only l eight first t e h = omega (arith, ap plain_in t, scan_take (within 32 126) 8 l)
-
--- or the first eight are plain, and behind them as many as go on, and the rest
-pub all_plain : (l eight rest : List ℕ) (first far k : ℕ) → eight ≡ take 8 l → rest ≡ drop 8 l → first ≡ plain_in eight → 8 ≤ first → PlainOn rest 0 far → k ≡ plain_in (take (length rest - far) (drop far rest)) →
-    8 + far + k ≡ plain_in l
-all_plain l eight rest first far k t d e h p f =
-    omega (arith, ap plain_in t, scan_take (within 32 126) 8 l, scan_far (within 32 126) l 8, ap plain_in d, ap plain_in (take_rest rest far))

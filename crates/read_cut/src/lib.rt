@@ -42,29 +42,36 @@ fn plain_sixteens(text: &[u8]) -> usize
     16 * found.unwrap_or(sixteens.len())
 }
 
-// The plain bytes that a text begins with, one by one.
-fn plain_bytes(text: &[u8]) -> usize
-    ensures { result ≡ plain_in text.now }
+// From place `at` on plain bytes, one by one, up to `end` at most.
+// Kept: a text and a place, since a search in the rest of the text took a tenth more instructions where lines are judged.
+fn plain_upto(text: &[u8], at: usize, end: usize) -> usize
+    requires { (at ≤ end) × (end ≤ length text.now) }
+    ensures { PlainOn text.now at result × (result ≤ end) × (result < end → plain_in (drop result text.now) ≡ 0) }
 {
-    text.iter()
-        .position(|b| !is_plain(*b))
-        .unwrap_or(text.len())
+    for i in at..end {
+        if !is_plain(text[i]) {
+            return i;
+        }
+    }
+    end
 }
 
-// The plain bytes that a text begins with. A line of one field ends among the first eight of them; only longer ones are worth more at once.
-fn plain_start(text: &[u8]) -> usize
-    ensures { result ≡ plain_in text.now }
+// The place before which the bytes from place `at` on are plain. A line of one field ends among the first eight of them; only longer ones are worth more at once.
+fn plain_end(text: &[u8], at: usize) -> usize
+    requires { at ≤ length text.now }
+    ensures { result ≡ at + plain_in (drop at text.now) }
 {
-    if text.len() < 8 {
-        return plain_bytes(text);
+    let all = text.len();
+    if all - at < 8 {
+        return plain_upto(text, at, all);
     }
-    let (eight, rest) = text.split_at(8);
-    let first = plain_bytes(eight);
-    if first < 8 {
+    let near = at + 8;
+    let first = plain_upto(text, at, near);
+    if first < near {
         return first;
     }
-    let far = plain_sixteens(rest);
-    8 + far + plain_bytes(&rest[far..])
+    let far = near + plain_sixteens(&text[near..]);
+    plain_upto(text, far, all)
 }
 
 // The bytes of the line end that a text begins with: 0 where there is none.
@@ -85,8 +92,8 @@ pub fn next_line(text: &[u8], at: Bytes) -> Cut
     ensures { CutAt text.now at.0 result }
 {
     let first = at.0;
-    let plain = plain_start(&text[first..]);
-    let from = first + plain;
+    let from = plain_end(text, first);
+    let plain = from - first;
     let all = text.len();
     if from < all && text[from] == b'\n' {
         return Cut {

