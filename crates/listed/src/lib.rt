@@ -65,6 +65,7 @@ fn write_row(number: u32, before: Words, whole: &[u8], out: &mut [u8], at: Bytes
 }
 
 // Puts the lines of an accepted block's records.
+// Kept: the number and the place are counted beside the walk: `enumerate` would give the number less one, and not the place.
 fn write_listing(block: &[u8], out: &mut [u8]) -> Bytes
     requires { Accepted block.now × Room out.old 0 (rows_of 1 1 (records_of block.now)) }
     ensures { Put out.old 0 (rows_of 1 1 (records_of block.now)) out.new result.0 }

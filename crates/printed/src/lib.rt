@@ -34,6 +34,7 @@ fn write_line(n: u32, out: &mut [u8]) -> Bytes
 }
 
 // Puts the size of a text's block, or the line of the text's refusal.
+// Kept: a match of its own, as `listed::print_listing` has: a function for both would take a closure over the lent output for the one arm that differs, and is no plainer.
 pub fn print_size(text: &[u8], out: &mut [u8; SIZE_BYTES]) -> Bytes
     ensures { PrintsSize text.now out.old result.0 out.new }
 {

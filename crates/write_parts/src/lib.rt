@@ -20,6 +20,7 @@ fn pairs(whole: &[u8]) -> &[[u8; 2]]
 }
 
 // Writes words as fields.
+// Kept: `out` and `at` are two parameters, here and below, for the reason that is told in report.
 fn write_fields(words: &[[u8; 2]], out: &mut [u8], at: Bytes) -> Bytes
     requires { Room out.old at.0 (fields_of (pair_words words.now)) }
     ensures { Put out.old at.0 (fields_of (pair_words words.now)) out.new result.0 }
