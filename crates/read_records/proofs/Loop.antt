@@ -1,9 +1,10 @@
 -- A turn of the reading: what is still to be read, from here, gives the whole.
 use mathlib.Core.Path.{◌≡◌, refl, sym, ap, ◌∙◌}
 use mathlib.Core.List.{List, [], ◌∷◌, ◌++◌}
-use Prim.Native.Nat.{ℕ, suc, ◌+◌, ◌-◌, ◌^◌, ◌≤◌, ◌<◌}
+use Prim.Native.Nat.{ℕ, suc, ◌+◌, ◌^◌, ◌≤◌, ◌<◌}
 use native.Mathlib.Omega.{arith}
-use lib.ListN.{length, take, drop, length-append}
+use native.Mathlib.Numerals.{unary_clauses}
+use lib.ListN.{length, take, drop, length-append, length-drop}
 use Rattle.units.specs.Answers.{Verdict, passed, refused, onward}
 use Rattle.units.proofs.Verdicts.{never_passed}
 use Rattle.read_columns.specs.declared.Flaw.{Flaw}
@@ -66,32 +67,32 @@ room_next num held rest l b b' n hn h e = by (read_line num held rest l) (line_k
         rw (ap (λ (x : Stand). x.held) same, ap (λ (x : Stand). x.rest) same) (room_on held rest l s h t.given)
     by (refused r) t e = absurd (never_passed (sym e))
 
--- where the loop stands at place `at`: the lines from there on, and bounds on what is counted
-pub record Reading (text b₀ b : List ℕ) (rest : List Shape) (held num at : ℕ) : Type 0 where
-  pub same : stored held b (read_lines num held rest (lines_in (drop at text))) ≡ stored 0 b₀ (read_lines 1 0 [] (lines_in text))
+-- where the loop stands with some of the text left: its lines, and bounds on what is counted
+pub record Reading (text b₀ b left : List ℕ) (rest : List Shape) (held num : ℕ) : Type 0 where
+  pub same : stored held b (read_lines num held rest (lines_in left)) ≡ stored 0 b₀ (read_lines 1 0 [] (lines_in text))
   pub length_kept : length b ≡ length b₀
-  pub lines_most : num ≤ at + 1
+  pub lines_most : num + length left ≤ length text + 1
   pub room : RoomToCome held rest
 
--- a turn of the loop, on the line that is cut at its place
-module _ {text b₀ b : List ℕ} {rest : List Shape} {held num at : ℕ} (g : Reading text b₀ b rest held num at) {c : Cut} (cut : CutAt text at c) where
+-- a turn of the loop, on the line that is cut from what is left
+module _ {text b₀ b left : List ℕ} {rest : List Shape} {held num : ℕ} (g : Reading text b₀ b left rest held num) {c : Cut} (cut : CutAt left 0 c) where
   abbrev line : List ℕ
-  line = take (c.end.0 - at) (drop at text)
+  line = take c.end.0 left
 
   -- with its lines cut the text is read as before
-  same_cut : stored held b (read_lines num held rest (line ∷ lines_in (drop c.next.0 text))) ≡ stored 0 b₀ (read_lines 1 0 [] (lines_in text))
-  same_cut = ap (λ x. stored held b (read_lines num held rest x)) (sym cut.cut) ∙ g.same
+  same_cut : stored held b (read_lines num held rest (line ∷ lines_in (drop c.next.0 left))) ≡ stored 0 b₀ (read_lines 1 0 [] (lines_in text))
+  same_cut = ap (λ x. stored held b (read_lines num held rest x)) (sym (simp unary_clauses at cut.cut)) ∙ g.same
 
   module _ (b' : List ℕ) (s : Result Next Flaw) (read : stand_of b' s ≡ after held b (read_line num held rest line)) where
     pub reading-refused : {f : Flaw} → s ≡ Err f → refused (flaw_of f) ≡ stored 0 b₀ (read_lines 1 0 [] (lines_in text))
-    reading-refused {f} is = sym (end num held rest line (lines_in (drop c.next.0 text)) b b' f (ap (stand_of b') (sym is) ∙ read)) ∙ same_cut
+    reading-refused {f} is = sym (end num held rest line (lines_in (drop c.next.0 left)) b b' f (ap (stand_of b') (sym is) ∙ read)) ∙ same_cut
 
-    pub reading-on : {n : Next} → s ≡ Ok n → length text ≤ 65536 → length b' ≡ length b → Reading text b₀ b' (to_come n.rest) n.held.0 (num + 1) c.next.0
+    pub reading-on : {n : Next} → s ≡ Ok n → length text ≤ 65536 → length b' ≡ length b → Reading text b₀ b' (drop c.next.0 left) (to_come n.rest) n.held.0 (num + 1)
     reading-on {n} is small kept =
         let e : stand_of b' (Ok n) ≡ after held b (read_line num held rest line) = ap (stand_of b') (sym is) ∙ read in
         record {
-          same = sym (turn num held rest line (lines_in (drop c.next.0 text)) b b' n e) ∙ same_cut;
+          same = sym (turn num held rest line (lines_in (drop c.next.0 left)) b b' n e) ∙ same_cut;
           length_kept = kept ∙ g.length_kept;
-          lines_most = omega (arith, g.lines_most, cut.onward);
+          lines_most = omega (arith, g.lines_most, cut.onward, cut.inside, length-drop c.next.0 left);
           room = room_next num held rest line b b' n (omega (arith, g.lines_most, cut.onward, cut.inside)) g.room e;
         }

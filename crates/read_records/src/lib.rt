@@ -42,16 +42,16 @@ pub fn read(text: &[u8], block: &mut [u8]) -> Result<Words, Flaw>
         held: Words(0),
     };
     let mut num = 1;
-    let mut at = 0;
-    while at < text.len() {
-        let cut = read_cut::next_line(text, Bytes(at));
+    let mut left = text;
+    while !left.is_empty() {
+        let cut = read_cut::next_line(left, Bytes(0));
         let line = Line {
             num: Lines(num),
-            text: &text[at..cut.end.0],
+            text: &left[..cut.end.0],
         };
         next = read_line::read_line(next, line, cut.plain, &mut row, block)?;
         num += 1;
-        at = cut.next.0;
+        left = left.split_at(cut.next.0).1;
     }
     at_end(next, Lines(num))
 }

@@ -3,8 +3,10 @@ use Rattle.read_records.proofs.Loop.{reading-refused, reading-on}
 use mathlib.Core.Path.{◌≡◌, refl, sym, ap, ◌∙◌}
 use mathlib.Core.List.{List, []}
 use native.Mathlib.Omega.{arith}
+use native.Mathlib.Numerals.{unary_clauses}
 use Prim.Native.Nat.{ℕ, ◌≤◌}
 use lib.ListN.{length, drop_of_length-le}
+use Rattle.std.proofs.lemmas.Bool.Decides.{nat_tests}
 use Rattle.read_cut.specs.Lines.{lines_in}
 use Rattle.read_line.specs.Lines.{read_lines}
 use Rattle.read_first_line.specs.State.{to_come}
@@ -24,26 +26,28 @@ none-held e = rw e (omega arith)
 by_lines : (t b : List ℕ) → length t ≤ 65536 → stored 0 b (read_lines 1 0 [] (lines_in t)) ≡ stored 0 b (read_text t)
 by_lines t b h = ap (stored 0 b) (sym (line_by_line t h))
 
-pub loop-at-init : goal.loop-at-init
-loop-at-init c = let a = c.args in
+pub loop-left-init : goal.loop-left-init
+loop-left-init c = let a = c.args in
     record { same = ap (λ r. stored 0 a.block.now (read_lines 1 0 r (lines_in a.text.now))) c.cards_only.ensures; length_kept = refl; lines_most = omega arith; room = none-held c.cards_only.ensures }
 
 pub read_line-requires : goal.read_line-requires
-read_line-requires c = let g = c.loop-at.invariant in (record { held = omega (arith, g.room) }, c.next_line-cut.ensures.plain)
+read_line-requires c = let g = c.loop-left.invariant in (record { held = omega (arith, g.room) }, simp unary_clauses at c.next_line-cut.ensures.plain)
 
 pub returns-in_err-next : goal.returns-in_err-next
-returns-in_err-next c = handed_on _ c.in_err-next.field-0.0 _ c.from_residual.ensures ∙ reading-refused c.loop-at.invariant c.next_line-cut.ensures _ _ c.read_line.ensures.is c.in_err-next.was ∙ by_lines c.args.text.now c.args.block.now c.if-text-gt65536.false
+returns-in_err-next c = handed_on _ c.in_err-next.field-0.0 _ c.from_residual.ensures ∙ reading-refused c.loop-left.invariant c.next_line-cut.ensures _ _ c.read_line.ensures.is c.in_err-next.was ∙ by_lines c.args.text.now c.args.block.now c.if-text-gt65536.false
 
 pub overflow_add-num : goal.overflow_add-num
-overflow_add-num c = omega (arith, c.loop-at.invariant.lines_most, c.loop-at-test.true, c.if-text-gt65536.false)
+overflow_add-num c = omega (arith, c.loop-left.invariant.lines_most, c.if-text-gt65536.false)
 
-pub loop-at-smaller : goal.loop-at-smaller
-loop-at-smaller c = omega (arith, c.next_line-cut.ensures.onward, c.next_line-cut.ensures.inside)
+pub loop-left-smaller : goal.loop-left-smaller
+loop-left-smaller c = omega (arith, c.next_line-cut.ensures.onward, c.next_line-cut.ensures.inside)
 
-pub loop-at-preserved : goal.loop-at-preserved
-loop-at-preserved c = reading-on c.loop-at.invariant c.next_line-cut.ensures _ _ c.read_line.ensures.is c.in_ok-next.was c.if-text-gt65536.false c.read_line.auto.block
+pub loop-left-preserved : goal.loop-left-preserved
+loop-left-preserved c = rw c.split_at.ensures.back (reading-on c.loop-left.invariant c.next_line-cut.ensures _ _ c.read_line.ensures.is c.in_ok-next.was c.if-text-gt65536.false c.read_line.auto.block)
 
 pub returns : goal.returns
 unfolding lines_in read_lines
-returns c = let l = c.loop-at in let t = c.args.text.now in
-    c.at_end.ensures l.block ∙ ap (λ x. stored l.next.held.0 l.block (read_lines l.num l.next.held.0 (to_come l.next.rest) (lines_in x))) (sym (drop_of_length-le t {i = l.at} c.loop-at-test.false)) ∙ l.invariant.same ∙ by_lines c.args.text.now c.args.block.now c.if-text-gt65536.false
+returns c = let l = c.loop-left in
+    let none : length l.left.now ≤ 0 = grind (arith, nat_tests) in
+    let none_left : l.left.now ≡ [] = drop_of_length-le l.left.now {i = 0} none in
+    c.at_end.ensures l.block ∙ ap (λ x. stored l.next.held.0 l.block (read_lines l.num l.next.held.0 (to_come l.next.rest) (lines_in x))) (sym none_left) ∙ l.invariant.same ∙ by_lines c.args.text.now c.args.block.now c.if-text-gt65536.false
