@@ -1,6 +1,5 @@
 -- The scan of a field, column by column.
 use Rattle.std.proofs.Common.{◌≡◌, ℕ, zero, suc, ◌+◌, ◌-◌, ◌*◌, ◌%◌, ◌^◌, ◌<◌, ◌≤◌, Bool, true, false, ◌&&◌, eqb, leb, List, ◌∷◌, length, get_or, take, drop, slice_range, refl, sym, ap, pow-suc, arith, drop-cons, length-drop, length-take, ne_eqb, le-leb, leb-true, Option, None}
-use native.Mathlib.Nat.{pow-le-pow_right}
 use Rattle.std.proofs.lemmas.List.{take_all}
 use lib.ListN.{get_or-eq_default, drop_of_length-le}
 use Rattle.units.proofs.Verdicts.{and_on}
@@ -29,17 +28,7 @@ module _ (s : Scan) (b : ℕ) (e : s ≡ Blank) where
   pub first-digit : (r : Scan) → (b ≡ 32 → ⊥) → (b ≡ 45 → ⊥) → (b ≡ 43 → ⊥) → r ≡ with_digit false 0 b → r ≡ after_column s b
   first-digit r h k l d = rw e (simp (ne_eqb b 32 h, ne_eqb b 45 k, ne_eqb b 43 l) d)
 
-module _ (s r : Scan) (minus : Bool) (b : ℕ) where
-  pub after_sign : s ≡ Sign minus → r ≡ with_digit minus 0 b → r ≡ after_column s b
-  after_sign e d = rw e d
-
-  pub after_digits : (m : ℕ) → s ≡ Digits minus m → r ≡ with_digit minus m b → r ≡ after_column s b
-  after_digits m e d = rw e d
-
 -- ---- the value stays small
-
-pub digits_small : (s : Scan) (minus : Bool) (m : ℕ) → s ≡ Digits minus m → so_far s < 100000 → m < 100000
-digits_small s minus m e h = rw e at h
 
 digit_grows : (minus : Bool) (m b : ℕ) → so_far (with_digit minus m b) ≤ m * 10 + 9
 digit_grows minus m b =
@@ -64,13 +53,7 @@ pub record Scanned (field : List ℕ) (i : ℕ) (s : Scan) : Type 0 where
   pub rest : scan_of s (drop i field) ≡ scan_of Blank field
 
 module _ (field : List ℕ) where
-  pub scan_starts : Scanned field 0 Blank
-  scan_starts = record { small = omega arith; rest = refl }
-
   module _ (i : ℕ) (s : Scan) (p : Scanned field i s) where
-    pub still-small : i < 6 → so_far s < 100000
-    still-small h = omega (arith, p.small, pow-le-pow_right {n = 10} (omega arith) {i = i} {j = 5} (omega arith))
-
     pub column-on : (t : Scan) (b : ℕ) → i < length field → b ≡ get_or field i 0 → t ≡ after_column s b → Scanned field (i + 1) t
     column-on t b h f e =
         let j : i + 1 ≡ suc i = omega arith in

@@ -70,12 +70,6 @@ module _ (lead n : ℕ) where
     unfolding six_of
     one d h e p = rw (last_one 4 n h, ← e) p
 
-    pub few : (x : ℕ) → 32 ∷ 32 ∷ four_bytes x ≡ six_of lead n → after ≡ sets out at (32 ∷ 32 ∷ four_bytes x) → after ≡ sets out at (six_of lead n)
-    few x e p = rw (← e) p
-
-    pub shown : (w : ℕ) → six_of lead n ≡ field_of w → after ≡ sets out at (six_of lead n) → after ≡ sets out at (field_of w)
-    shown w e p = rw (← e) p
-
     module _ (w x : ℕ) (field : six_of lead n ≡ field_of w) (e : x ≡ four_of n) where
       all-four : four_bytes x ≡ digit (n / 1000) ∷ digit (n / 100) ∷ digit (n / 10) ∷ digit n ∷ []
       all-four = rw (e, four_bytes_lem (digit (n / 1000)) (digit (n / 100)) (digit (n / 10)) (digit n) (omega arith) (omega arith) (omega arith))

@@ -5,7 +5,6 @@ use mathlib.Core.List.{List, [], ◌∷◌}
 use Prim.Native.Nat.{ℕ, zero, suc, ◌+◌, ◌-◌, ◌≤◌, ◌<◌}
 use native.Mathlib.Nat.{add-zero}
 use native.Mathlib.Omega.{arith}
-use borrow.Author.Count.{below_more}
 use borrow.Author.Tests.{ne_eqb, eqb-true, leb-true}
 use lib.Dec.{leb, eqb}
 use lib.ListN.{length, get_or, take, drop, length-drop}
@@ -66,9 +65,6 @@ module _ (t : List ℕ) (at : ℕ) where
   pub sought_plain : at ≤ length t → Sought t at (at + plain_in (drop at t))
   sought_plain h =
       record { behind = omega arith; room = omega (arith, scan_le (within 32 126) (drop at t), length-drop at t); free = plain_free t at }
-
-  pub sought_on : (i : ℕ) → Sought t at i → i < length t → end_length (drop i t) ≡ 0 → Sought t at (i + 1)
-  sought_on i s h e = record { behind = omega arith; room = omega arith; free = below_more (λ j. at ≤ j → end_length (drop j t) ≡ 0) i s.free (λ _. e) }
 
   -- there the line ends, or the text
   pub cut_here : (c : Cut) → Sought t at c.end.0 → c.plain.0 ≡ plain_in (drop at t) → c.next.0 ≡ c.end.0 + end_length (drop c.end.0 t) →

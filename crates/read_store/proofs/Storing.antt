@@ -56,9 +56,6 @@ abbrev pub Stored : List ℕ → ℕ → List ℕ → ℕ → ℕ → ℕ → Li
 Stored out at row from end k after = sets after ((at + (k - from)) * 2) (bytes_of (slice k end row)) ≡ sets out (at * 2) (bytes_of (slice from end row))
 
 module _ (out row : List ℕ) (at from end : ℕ) where
-  pub stored-none : Stored out at row from end from out
-  stored-none = let e : at + (from - from) ≡ at = omega arith in rw e
-
   module _ (after : List ℕ) (k : ℕ) (s : Stored out at row from end k after) where
     pub stored-on : (next : List ℕ) → from ≤ k → k < end → end ≤ length row → next ≡ sets after ((at + (k - from)) * 2) (bytes_of (get_or row k 0 ∷ [])) → Stored out at row from end (k + 1) next
     stored-on next h l room e =

@@ -1,9 +1,6 @@
-use Rattle.field.proofs.Putting.{shown, four, five}
+use Rattle.field.proofs.Putting.{four, five}
 use Rattle.std.proofs.Common.{rules}
 use Rattle.field.proofs.write_field.Goals as goal
-
-pub returns-then-n-lt1000 : goal.returns-then-n-lt1000
-returns-then-n-lt1000 c = search shown
 
 pub returns-then-n-lt10000 : goal.returns-then-n-lt10000
 returns-then-n-lt10000 c = search (four, rules)

@@ -2,7 +2,7 @@ use Rattle.std.proofs.Common.{◌≡◌, true, refl, sym, eq-eqb, ◌+◌, lengt
 use lib.ListN.{drop_of_length-le}
 use Rattle.std.proofs.lemmas.List.{take_rest}
 use Rattle.read_cut.specs.Lines.{end_length}
-use Rattle.read_cut.proofs.FirstLine.{Sought, sought_plain, sought_on, cut_here, lf_at}
+use Rattle.read_cut.proofs.FirstLine.{Sought, sought_plain, cut_here, lf_at}
 use Rattle.read_cut.proofs.next_line.Goals as goal
 
 pub returns-then-text-from-eq10 : goal.returns-then-text-from-eq10
@@ -18,10 +18,6 @@ pub returns-then-size-gt0 : goal.returns-then-size-gt0
 returns-then-size-gt0 c = let a = c.args in let i = c.loop-i.i in
     let e = c.end_length-size.ensures.0 ∙ ap end_length (take_rest a.text.now i) in
     cut_here a.text.now a.at.0 _ c.loop-i.invariant (omega (arith, c.plain_end-from.ensures)) (ap (λ k. i + k) e) (λ _. omega (arith, e)) (omega arith) (omega (arith, c.end_length-size.ensures.1, ap length (take_rest a.text.now i), length-drop i a.text.now))
-
-pub loop-i-preserved : goal.loop-i-preserved
-loop-i-preserved c = let a = c.args in let i = c.loop-i.i in
-    sought_on a.text.now a.at.0 i c.loop-i.invariant (omega arith) (omega (arith, c.end_length-size.ensures.0, ap end_length (take_rest a.text.now i)))
 
 pub returns : goal.returns
 unfolding end_length

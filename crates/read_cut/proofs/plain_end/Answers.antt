@@ -27,9 +27,6 @@ onward t n k p = let e = take_rest t n in omega (arith, p, ap plain_in e, ap (λ
 pub returns-then-all-at-lt8 : goal.returns-then-all-at-lt8
 returns-then-all-at-lt8 c = let u = c.plain_upto.ensures in ends _ _ _ u.0 u.2
 
-pub returns-then-first-near : goal.returns-then-first-near
-returns-then-first-near c = let u = c.plain_upto-first.ensures in omega (arith, u.0, u.2 c.if-first-near.true)
-
 pub returns : goal.returns
 returns c = let u = c.plain_upto-2.ensures in let n = c.plain_upto-first in let t = c.args.text.now in
     let near : n.result ≡ c.args.at + 8 = omega (arith, n.ensures.1, c.if-first-near.false) in

@@ -1,5 +1,5 @@
-use Rattle.std.proofs.Common.{◌≡◌, refl, sym, ap, ◌+◌, drop, ◌∙◌, arith}
-use Rattle.words.specs.Scans.{within, plain_in}
+use Rattle.std.proofs.Common.{refl, sym, ◌∙◌, arith}
+use Rattle.words.specs.Scans.{within}
 use Rattle.words.proofs.Scans.{scan_on, scan_stop}
 use Rattle.read_cut.proofs.plain_upto.Goals as goal
 
@@ -9,7 +9,3 @@ returns-then-not-is_plain c =
 
 pub loop-i-preserved : goal.loop-i-preserved
 loop-i-preserved c = omega (arith, c.loop-i.invariant, scan_on (within 32 126) c.args.text.now c.loop-i.i _ (omega arith) refl (sym c.is_plain.ensures ∙ c.if-not-is_plain.false))
-
-pub returns : goal.returns
-returns c = let e : c.loop-i.i ≡ c.args.end = omega arith in
-    (omega (arith, c.loop-i.invariant, ap (λ i. i + plain_in (drop i c.args.text.now)) e), omega arith, λ h. absurd (omega arith))
