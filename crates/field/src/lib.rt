@@ -74,7 +74,8 @@ fn few(lead: u8, n: u16) -> u32
     four_digits(n) - 48 + u32::from(lead)
 }
 
-// Kept: with the part of the line as a parameter, or one copy of a whole field at the end of `write_field`, writing took a third more instructions.
+// Kept: with the six columns as a part of the line, or one copy of a whole field, writing took a third more instructions or worse; as a `&mut [u8; 6]` by
+// `first_chunk_mut` the proof of `write_field` did not close: what is written through it is not known of the line.
 fn put_six(out: &mut [u8], at: usize, columns: [u8; 6])
     requires { at + 6 ≤ length out.old }
     ensures { out.new ≡ sets out.old at columns }
