@@ -74,8 +74,7 @@ fn few(lead: u8, n: u16) -> u32
     four_digits(n) - 48 + u32::from(lead)
 }
 
-// Kept: with the six columns as a part of the line, or one copy of a whole field, writing took a third more instructions or worse; as a `&mut [u8; 6]` by
-// `first_chunk_mut` the proof of `write_field` did not close: what is written through it is not known of the line.
+// Kept: with the six columns as a slice, or one copy of a whole field, writing took a third more instructions; as a `&mut [u8; 6]` the proof did not close: what is written through it is lost.
 fn put_six(out: &mut [u8], at: usize, columns: [u8; 6])
     requires { at + 6 ≤ length out.old }
     ensures { out.new ≡ sets out.old at columns }
