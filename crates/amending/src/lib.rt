@@ -71,6 +71,7 @@ impl Numbered for Objection {
 }
 
 // Judges the block and the sheet: how many amendments stand.
+// Kept: `block` and `sheet`, here and below, are two parameters: the calls for C take them so (`cedar_amend`, `cedar_undo` of include/cedar.h), and each is lent by itself.
 fn look(block: &[u8], sheet: &[u8]) -> Result<u16, Objection>
     ensures told { amended_of result ≡ onward (judged block.now) (λ _. opened version1 sheet.now) }
     ensures ready { IfOk result (Ready version1 block.now sheet.now) }

@@ -13,7 +13,7 @@ use Rattle.block.specs.Judging.{Accepted}
 use Rattle.block.specs.Records.{records_of}
 use Rattle.block.proofs.Exact.{ok_long, only_good, words_are, frame_of, frame_ok}
 use Rattle.block_steps.specs.declared.Walk.{Walk}
-use Rattle.block_steps.specs.Standing.{standing, records_left, LendsRecord}
+use Rattle.block_steps.specs.Standing.{records_from, records_left, LendsRecord}
 use Rattle.block_steps.proofs.Walking.{stand_in_block}
 
 -- the records that are left are good, and what holds of them
@@ -39,7 +39,7 @@ module _ (b : List ℕ) (bytes : Below 256 b) (a : Accepted b) where
       by [] each most = tt
       by (r ∷ rs) each most = let n = length-append r (joined rs) in (record { ok = each.0; most = omega arith }, by rs each.1 (omega arith))
 
-  pub loop_start : {made it : Walk} → records_left made ≡ standing 0 (drop 1 (words_of b)) → it ≡ made → {P : List (List ℕ) → Type 0} → P (records_of b) → Loop it P
+  pub loop_start : {made it : Walk} → records_left made ≡ records_from 0 (drop 1 (words_of b)) → it ≡ made → {P : List (List ℕ) → Type 0} → P (records_of b) → Loop it P
   loop_start made same {P} h = let are = ap records_left same ∙ made ∙ stand_in_block b bytes a in
       record { good = subst (All BlockRecord) (sym are) block_records; holds = subst P (sym are) h }
 

@@ -5,21 +5,21 @@ use Rattle.words.specs.Words.{words_of, bytes_of}
 use Rattle.block_steps.specs.declared.Walk.{Walk}
 use denote.Ref.{Bor}
 
--- after `skip` words each record has as many words as its first says, up to one that says 0 or more than stand before the last word
-unfoldable pub standing : ℕ → List ℕ → List (List ℕ)
-standing skip [] = []
-standing zero (k ∷ ws) = if eqb k 0 || ltb (length ws) k then [] else take k (k ∷ ws) ∷ standing (k - 1) ws
-standing (suc skip) (w ∷ ws) = standing skip ws
+-- "In every record word 1 is LTOT": after `skip` words each record has as many words as its first says, up to one that says 0 or more than stand before the last word
+unfoldable pub records_from : ℕ → List ℕ → List (List ℕ)
+records_from skip [] = []
+records_from zero (k ∷ ws) = if eqb k 0 || ltb (length ws) k then [] else take k (k ∷ ws) ∷ records_from (k - 1) ws
+records_from (suc skip) (w ∷ ws) = records_from skip ws
 
 -- what stands behind `at` words of a block is lent with the words up to its end, a part of the block that has just its words; or nothing stands there
 abbrev pub Lends : List ℕ → ℕ → Option (Bor (List ℕ) × Words) → Type 0
-Lends b at None = standing 0 (drop at (words_of b)) ≡ []
+Lends b at None = records_from 0 (drop at (words_of b)) ≡ []
 Lends b at (Some (whole, end)) =
-    (standing 0 (drop at (words_of b)) ≡ words_of whole.now ∷ standing 0 (drop end.0 (words_of b))) × (whole.now ≡ bytes_of (words_of whole.now))
+    (records_from 0 (drop at (words_of b)) ≡ words_of whole.now ∷ records_from 0 (drop end.0 (words_of b))) × (whole.now ≡ bytes_of (words_of whole.now))
 
 -- the records that are still to come
 unfoldable pub records_left : Walk → List (List ℕ)
-records_left it = standing 0 (drop it.at.0 (words_of it.block.now))
+records_left it = records_from 0 (drop it.at.0 (words_of it.block.now))
 
 -- the first of them is lent, a part of the block that has just its words; or none is left, now and later
 abbrev pub LendsRecord : Walk → Option (Bor (List ℕ)) → Walk → Type 0

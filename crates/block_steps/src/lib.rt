@@ -1,11 +1,11 @@
 // The records of a block, one after the other: the next one, record n, one lent as a part of the block, and each in turn.
 #![tactic(auto)]
 
-ghost use Rattle.std.specs.Prelude.{◌≡◌, drop};
+ghost use Rattle.std.specs.Prelude.{◌≡◌, ◌+◌, ◌^◌, ◌<◌, drop};
 ghost use Rattle.words.specs.Words.{words_of, bytes_of};
 ghost use Rattle.block_steps.specs.Steps.{record_at};
 ghost use Rattle.block_steps.specs.Promises.{StepsTo, FindsRecord};
-ghost use Rattle.block_steps.specs.Standing.{standing, records_left, Lends};
+ghost use Rattle.block_steps.specs.Standing.{records_from, records_left, Lends};
 
 use units::Words;
 
@@ -14,6 +14,16 @@ use units::Words;
 pub struct Place {
     pub at: Words,
     pub size: Words,
+}
+
+impl Place {
+    // The words of the block up to its end.
+    fn end(self) -> Words
+        requires { self.at.0 + self.size.0 < 2 ^ 64 }
+        ensures { result.0 ≡ self.at.0 + self.size.0 }
+    {
+        Words(self.at.0 + self.size.0)
+    }
 }
 
 // The record with `at` words of the block before it, or none where none stands there.
@@ -37,8 +47,8 @@ fn lend(block: &[u8], at: Words) -> Option<(&[u8], Words)>
     ensures { Lends block.now at.0 result }
 {
     let place = step(block, at)?;
-    let end = place.at.0 + place.size.0;
-    Some((words::span(block, place.at, Words(end)), Words(end)))
+    let end = place.end();
+    Some((words::span(block, place.at, end), end))
 }
 
 // The record with `at` words of the block before it, lent as a part of the block; an empty part where none stands there.
@@ -47,6 +57,7 @@ pub fn record_at(block: &[u8], at: Words) -> &[u8]
 {
     match lend(block, at) {
         Some((whole, _)) => whole,
+        // Kept: an empty part, not None: the clause of the public `record_at` lends the bytes of no words where no record stands.
         None => &block[..0],
     }
 }
@@ -59,16 +70,15 @@ pub fn find(block: &[u8], number: u16) -> Option<Place>
     if number == 0 {
         return None;
     }
-    let mut at = 1;
+    let mut at = Words(1);
     for _ in 1..number {
-        let place = step(block, Words(at))?;
-        at = place.at.0 + place.size.0;
+        at = step(block, at)?.end();
     }
-    step(block, Words(at))
+    step(block, at)
 }
 
 // A walk over the records of a block: the next one is that with `at` words of the block before it.
-#[derive(Clone, Copy)]
+#[derive(Drop)]
 pub struct Walk<'a> {
     block: &'a [u8],
     at: Words,
@@ -77,7 +87,7 @@ pub struct Walk<'a> {
 // The records of a block, each lent in turn as a part of it.
 #[tactic(auto, unfolding(crate::specs::Standing::records_left))]
 pub fn records(block: &[u8]) -> Walk<'_>
-    ensures { records_left result ≡ standing 0 (drop 1 (words_of block.now)) }
+    ensures { records_left result ≡ records_from 0 (drop 1 (words_of block.now)) }
 {
     Walk {
         block,

@@ -2,23 +2,23 @@
 use mathlib.Core.Path.{◌≡◌, refl, sym, ap, ◌∙◌}
 use mathlib.Core.Bool.{Bool, true, false}
 use mathlib.Core.List.{List, [], ◌∷◌, ◌++◌}
-use Prim.Native.Nat.{ℕ, zero, suc, ◌+◌, ◌-◌, ◌*◌, ◌≤◌, ◌<◌}
+use Prim.Native.Nat.{ℕ, zero, suc, ◌+◌, ◌-◌, ◌≤◌, ◌<◌}
 use native.Mathlib.Nat.{add-zero}
 use native.Mathlib.Omega.{arith}
 use borrow.Author.Tests.{lt-ltb, le-ltb, eq-eqb, ne_eqb}
 use lib.Dec.{eqb-suc-zero, leb-suc-suc}
 use lib.ListN.{length, get_or, take, drop, length-append}
-use lib.Seq.{slice, split_at}
+use lib.Seq.{split_at}
 use Rattle.std.specs.Prelude.{if◌then◌else◌, Option, Some, None, Ok, Err}
 use Rattle.std.specs.Option.{ok_or}
 use Rattle.units.specs.Answers.{answer, passed, refused}
 use Rattle.units.specs.declared.Words.{Words}
-use Rattle.words.specs.Words.{words_of, joined, Below, most_words}
-use Rattle.words.proofs.Laws.{words-slice}
+use Rattle.words.specs.Words.{words_of, bytes_of, joined, Below, most_words}
+use Rattle.words.proofs.Laws.{words_bytes}
 use Rattle.record.specs.Rules.{RecordOk}
 use Rattle.record.specs.Values.{is_value}
 use Rattle.record.proofs.Values.{ValueAt, value_at}
-use Rattle.block_steps.specs.Steps.{place_of, find_of, placed}
+use Rattle.block_steps.specs.Steps.{place_of, find_of, placed, record_at}
 use Rattle.block.specs.Judging.{Accepted}
 use Rattle.block.specs.Records.{records_of}
 use Rattle.block_steps.specs.declared.Place.{Place}
@@ -48,7 +48,7 @@ placed_is (r ∷ rs) at (suc (suc n)) =
 pub record Located (b : List ℕ) (n : ℕ) (place size : Words) : Type 0 where
   pub there : no_record (records_of b) n ≡ false
   pub here : place.0 ≡ 1 + length (joined (take (n - 1) (records_of b)))
-  pub words : slice place.0 (place.0 + size.0) (words_of b) ≡ record_in (records_of b) n
+  pub words : record_at (words_of b) place.0 ≡ record_in (records_of b) n
   pub ok : RecordOk (record_in (records_of b) n)
   pub within : place.0 + size.0 < length (words_of b)
   pub most : length (words_of b) ≤ most_words
@@ -90,7 +90,7 @@ module _ (b : List ℕ) (bytes : Below 256 b) (accepted : Accepted b) (n : ℕ) 
           record {
             there = some;
             here = here;
-            words = rw (here, long) first.words;
+            words = rw (here, first.found) first.words;
             ok = first.ok;
             within = omega (arith, here, long, first.within);
             most = left.most;
@@ -107,9 +107,9 @@ none_found b e v (Some r) bytes accepted q f = absurd (cc)
 none_found b e v None bytes accepted q {o = o} f = let same : NoSuchRecord ≡ o = cc in rw (← same) (no_record_lem b e v None bytes accepted q refl)
 
 -- or the place is in its part of the block
-module _ (b part : List ℕ) {n : ℕ} {place size : Words} (l : Located b n place size) (q : part ≡ slice (place.0 * 2) ((place.0 + size.0) * 2) b) where
+module _ (b part : List ℕ) {n : ℕ} {place size : Words} (l : Located b n place size) (q : part ≡ bytes_of (record_at (words_of b) place.0)) where
   part_is : words_of part ≡ record_in (records_of b) n
-  part_is = ap words_of q ∙ words-slice place.0 (place.0 + size.0) b ∙ l.words
+  part_is = ap words_of q ∙ words_bytes (record_at (words_of b) place.0) ∙ l.words
 
   pub part_ok : RecordOk (words_of part)
   part_ok = rw part_is l.ok

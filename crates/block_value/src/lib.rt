@@ -61,8 +61,7 @@ fn find_value(block: &[u8], e: Amendment, value: u16) -> Result<Words, Obstacle>
     ensures { spot_of result ≡ value_place (records_of block.now) (entry_of e) value }
 {
     let place = block_steps::find(block, e.number).ok_or(Obstacle::NoSuchRecord)?;
-    let end = place.at.0 + place.size.0;
-    let whole = words::span(block, place.at, Words(end));
+    let whole = block_steps::record_at(block, place.at);
     value_in(whole, place.at, e.word, value)
 }
 

@@ -4,7 +4,7 @@ use Rattle.words.specs.Words.{words_of, joined, Below}
 use Rattle.block.specs.Judging.{Accepted}
 use Rattle.block.specs.Records.{records_of}
 use Rattle.block_steps.specs.Steps.{place_of, step_of, find_of, placed}
-use Rattle.block_steps.specs.Standing.{standing}
+use Rattle.block_steps.specs.Standing.{records_from}
 
 -- behind word 1 and the records before it, a step finds each record, with its size
 abbrev pub StepFinds : Type 0
@@ -22,4 +22,4 @@ FindFinds = (b : List ℕ) → Below 256 b → Accepted b → (n : ℕ) → find
 
 -- a walk has the block's records left when it begins
 abbrev pub WalkLends : Type 0
-WalkLends = (b : List ℕ) → Below 256 b → Accepted b → standing 0 (drop 1 (words_of b)) ≡ records_of b
+WalkLends = (b : List ℕ) → Below 256 b → Accepted b → records_from 0 (drop 1 (words_of b)) ≡ records_of b

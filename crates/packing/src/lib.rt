@@ -8,7 +8,7 @@ ghost use Rattle.packing.specs.Current.{count_limit, sealed_bytes, room_for, wit
 use units::{Bytes, Words};
 
 // The current block: it begins behind `start` bytes of the output, and has `used` record words so far.
-// Kept: that no method is asked past `most_record_words` is said at each and is no invariant of the type, as the contract of `with_record` lets it count on past them.
+// Kept: that no method is asked past `most_record_words` words or `count_limit` bytes is said at each and is no invariant of the type, as the contract of `with_record` lets it count on past them, from any start.
 #[derive(Clone, Copy)]
 pub struct Current {
     pub start: Bytes,
@@ -32,6 +32,7 @@ impl Current {
     }
 
     // The block that a record of `k` words goes into: this one if it fits, else a new one.
+    // Kept: the most that `k` may be is said here, in `with_record` and in repacking's `make_room`: the public `room_for` and `with_record` take any `Words`, and no type of theirs may be narrower.
     #[tactic(auto, unfolding(crate::specs::Current::room_for))]
     pub fn room_for(self, k: Words) -> Current
         requires { (self.used.0 ≤ most_record_words) × (k.0 ≤ most_record_words) × (self.start.0 ≤ count_limit) }

@@ -23,6 +23,7 @@ use units::{Answer, Bytes, Unwritten, Words};
 const MOST_BYTES: usize = 64000;
 
 // The current block once the records of an accepted block are packed.
+// Kept: `Accepted`, here and below, is asked of bytes, and `BlockRecord` of a record's: `block_steps::records` lends bytes of any block, as its promise says, and `block_value::exchange` writes into an accepted block, so no type holds one.
 fn count_records(block: &[u8], current: Current) -> Current
     requires { Accepted block.now × Countable current (records_of block.now) }
     ensures { result ≡ current_after current (records_of block.now) }
@@ -54,7 +55,7 @@ fn judge_blocks(slice: &[u8]) -> Result<Bytes, SliceRefusal>
 }
 
 // Seals the current block where it stands in the output.
-// Kept: `out` and the current block are two parameters: a struct that holds the lent output was tried in report, and each contract must then say besides that it is still the same slice.
+// Kept: `out` and the current block are two parameters: a struct of the output and the place in it was tried in report. It proves, but no clause and no proof is shorter, and each caller makes it and takes its place out again.
 #[tactic(auto, unfolding(packing::specs::Current::current_after))]
 fn seal_current(out: &mut [u8], current: Current)
     requires { Fitting out.old current [] }
@@ -71,6 +72,7 @@ fn make_room(out: &mut [u8], current: Current, k: Words) -> Current
 {
     let next = current.room_for(k);
     // It is still the same block.
+    // Kept: told by its start: `next == current` would ask PartialEq and Eq of Current, Bytes and Words for this one test, and compare the words used besides.
     if next.start.0 == current.start.0 {
         return next;
     }
@@ -104,7 +106,7 @@ fn put_records(block: &[u8], out: &mut [u8], current: Current) -> Current
 }
 
 // Writes the blocks of an accepted slice again, packed.
-// Kept: its loop and that of `judge_blocks` are two: that one judges a block to know its size and may stop, and this one reads the size, as all blocks are accepted.
+// Kept: its loop and that of `judge_blocks` are two: an iterator over the blocks of a slice would be one more type, with its ghost model and laws, for the cut alone: that loop judges a block to know its size and may stop, and this one reads the size, as all blocks are accepted.
 fn write_blocks(slice: &[u8], out: &mut [u8])
     requires { Packable slice.now out.old }
     ensures { PackedInto slice.now out.old out.new }

@@ -141,6 +141,7 @@ fn put_numbers(sheet: &mut [u8], i: u16, e: Amendment)
 {
     let at = before_entry(i).0;
     let numbers = [e.number, e.word, e.old, e.new];
+    // Kept: the index is added to the place, as `put_word` takes places: a zip with the lent pairs of bytes would store each number by hand, which `put_word` does.
     for (k, number) in numbers.iter().enumerate() {
         words::put_word(sheet, Words(at + k), *number);
     }

@@ -6,7 +6,7 @@ use lib.ListN.{drop}
 use lib.Seq.{slice}
 use Rattle.words.specs.Words.{words_of, bytes_of}
 use Rattle.words.proofs.Laws.{length_words_of, words_bytes, bytes_slice, all_below}
-use Rattle.block_steps.specs.Standing.{standing}
+use Rattle.block_steps.specs.Standing.{records_from}
 use Rattle.block_steps.proofs.Steps.{step_found}
 use Rattle.block_steps.proofs.Walking.{by_step, by_steps}
 use Rattle.block_steps.proofs.lend.Goals as goal
@@ -15,8 +15,8 @@ pub returns-in_err-place : goal.returns-in_err-place
 returns-in_err-place c = let ws = words_of c.args.block.now in
     rw c.from_residual.ensures (by_steps ws c.args.at.0 ∙ ap (by_step ws) (sym c.in_err-place.ensures))
 
-pub overflow_add-end : goal.overflow_add-end
-overflow_add-end c = omega (arith, step_found _ _ _ (sym c.in_ok-place.ensures), length_words_of c.args.block.now)
+pub end-end-requires : goal.end-end-requires
+end-end-requires c = omega (arith, step_found _ _ _ (sym c.in_ok-place.ensures), length_words_of c.args.block.now)
 
 pub span-requires : goal.span-requires
 span-requires c = omega (arith, step_found _ _ _ (sym c.in_ok-place.ensures))
@@ -28,6 +28,7 @@ returns c = let b = c.args.block.now in
     let end = p.at.0 + p.size.0 in
     let found = step_found _ _ _ (sym c.in_ok-place.ensures) in
     let bytes : c.span.result.now ≡ bytes_of (slice p.at.0 end ws)
-    = c.span.ensures ∙ bytes_slice p.at.0 end b (omega arith) (all_below 256 b (λ i. omega (arith, c.type_inv.block i))) in
+    = (rw c.end-end.ensures at c.span.ensures) ∙ bytes_slice p.at.0 end b (omega (arith, found)) (all_below 256 b (λ i. omega (arith, c.type_inv.block i))) in
     let are : words_of c.span.result.now ≡ slice p.at.0 end ws = ap words_of bytes ∙ words_bytes _ in
-    (by_steps ws c.args.at.0 ∙ ap (by_step ws) (sym c.in_ok-place.ensures) ∙ ap (λ r. r ∷ standing 0 (drop end ws)) (sym are), bytes ∙ ap bytes_of (sym are))
+    rw c.end-end.ensures
+    (by_steps ws c.args.at.0 ∙ ap (by_step ws) (sym c.in_ok-place.ensures) ∙ ap (λ r. r ∷ records_from 0 (drop end ws)) (sym are), bytes ∙ ap bytes_of (sym are))

@@ -9,17 +9,11 @@ returns-in_err-place c =
     let p = err_from_is_err_and c.from_residual.result c.from_residual.ensures.1 in
     rw (p.1, p.2) (none_found _ _ _ _ c.requires.0 c.requires.1 c.find.ensures (sym c.ok_or.ensures.value ∙ c.in_err-place.was))
 
-pub overflow_add-end : goal.overflow_add-end
-overflow_add-end c = let it = located _ c.requires.0 c.requires.1 _ _ c.find.ensures (sym c.ok_or.ensures.value ∙ c.in_ok-place.was) in omega (arith, it)
-
-pub span-whole-requires : goal.span-whole-requires
-span-whole-requires c = let it = located _ c.requires.0 c.requires.1 _ _ c.find.ensures (sym c.ok_or.ensures.value ∙ c.in_ok-place.was) in omega (arith, it)
-
 pub value_in-requires : goal.value_in-requires
 value_in-requires c =
-    let it = located _ c.requires.0 c.requires.1 _ _ c.find.ensures (sym c.ok_or.ensures.value ∙ c.in_ok-place.was) in (part_ok _ _ it c.span-whole.ensures, omega (arith, it))
+    let it = located _ c.requires.0 c.requires.1 _ _ c.find.ensures (sym c.ok_or.ensures.value ∙ c.in_ok-place.was) in (part_ok _ _ it c.record_at-whole.ensures, omega (arith, it))
 
 pub returns : goal.returns
 returns c =
     let it = located _ c.requires.0 c.requires.1 _ _ c.find.ensures (sym c.ok_or.ensures.value ∙ c.in_ok-place.was) in
-    c.value_in.ensures ∙ part_value _ _ it c.span-whole.ensures _ refl _
+    c.value_in.ensures ∙ part_value _ _ it c.record_at-whole.ensures _ refl _
