@@ -6,13 +6,14 @@ use native.Mathlib.Nat.{suc-mul, mul-zero, zero-add, mul-div_cancel}
 use native.Mathlib.Numerals.{add-one}
 use native.Mathlib.Omega.{arith}
 use lib.ListN.{length, get_or, take, drop, length-append, length-drop, drop_of_length-le}
-use lib.Seq.{sets, slice, drop-cons, drop-drop, length-slice, length-take-le, take-append_seam, drop-append_seam}
+use lib.Seq.{sets, slice, drop-cons, drop-drop, length-slice, length-take-le, take_all, take-append_seam, drop-append_seam}
 use Rattle.std.proofs.lemmas.List.{take-append-drop, take-append-le, drop-append-le, take-map, drop-map}
 use Rattle.std.specs.Int.{w16, from_be_bytes}
 use Rattle.words.specs.Words.{words_of, bytes_of, Below}
 use Rattle.words.specs.Writing.{Put}
-use Rattle.words.proofs.Lists.{part_slice, all_take, all_drop}
-use Rattle.words.proofs.Laws.{bytes_words, words-slice}
+use Rattle.words.proofs.Lists.{all_take, all_drop}
+use Rattle.words.proofs.Laws.{length_words_of, all_below, bytes_words, words_take, words-drop, words-slice}
+use Rattle.std.specs.Simd.{first_chunks}
 use Rattle.field.specs.Writing.{field_of}
 use Rattle.field.proofs.Written.{length_field_of}
 use Rattle.units.specs.Units.{Line}
@@ -160,27 +161,38 @@ head_turn a b n ws h =
     ∙ append_assoc (field_of a) (field_of b ++ fields_of (take (n - 2) ws)) (10 ∷ [])
     ∙ ap (λ t. field_of a ++ t) (append_assoc (field_of b) (fields_of (take (n - 2) ws)) (10 ∷ []))
 
--- the next card, and the others
-pub card_turn : (ws : List ℕ) (place left : ℕ) → 0 < left
-    → ended (card_lines left (drop place ws)) ≡ bytes_of (take 40 (drop place ws)) ++ (10 ∷ ended (card_lines (left - 1) (drop (place + 40) ws)))
-unfolding ended card_lines
-card_turn ws place left h =
-    let e : left ≡ suc (left - 1) = omega arith in
-    ap (λ k. ended (card_lines k (drop place ws))) e
-    ∙ ap (λ l. bytes_of (take 40 (drop place ws)) ++ (10 ∷ ended (card_lines (left - 1) l))) (drop-drop 40 place ws)
+-- the cards of whole cards' bytes, as words and as they stand in the record
+card_chunks : (n m : ℕ) (b : List ℕ) → n ≤ m → m * 80 ≤ length b → Below 256 b → take n (first_chunks 80 m b) ≡ card_lines n (words_of b)
+unfolding card_lines
+card_chunks zero m b h k below = refl
+card_chunks (suc n) zero b h k below = absurd (omega arith)
+card_chunks (suc n) (suc m) b h k below =
+    let l = length-take-le 80 b (omega arith) in
+    let card = sym (bytes_words (take 80 b) (omega arith) (all_take (λ x. x < 256) 80 b below)) ∙ ap bytes_of (words_take 40 b) in
+    let others = card_chunks n m (drop 80 b) (omega arith) (omega (arith, length-drop 80 b)) (all_drop (λ x. x < 256) 80 b below) in
+    ap₂ ◌∷◌ card (others ∙ ap (card_lines n) (words-drop 40 b))
 
-pub no_cards : (ws : List ℕ) (left : ℕ) → left ≡ 0 → ended (card_lines left ws) ≡ []
-unfolding ended card_lines
-no_cards ws left e = rw e refl
+-- those of a record, from a place on
+pub cards_told : (b : List ℕ) (from cards n : ℕ) {s : List ℕ} {chunks : List (List ℕ)} → ((i : ℕ) → get_or b i 0 < 256) → from + 40 * cards ≤ length (words_of b) → n ≡ length (words_of b)
+    → s ≡ slice (from * 2) (n * 2) b → chunks ≡ first_chunks 80 (length s / 80) s → take cards chunks ≡ card_lines cards (drop from (words_of b))
+cards_told b from cards n {s} {chunks} h fit all e f =
+    let ws = words_of b in
+    let below = all_below 256 b h in
+    let sized : length s ≡ n * 2 - from * 2 = ap length e ∙ length-slice (from * 2) (n * 2) b (omega (arith, all, length_words_of b)) in
+    let bytes : Below 256 s = rw e (all_drop (λ x. x < 256) (from * 2) (take (n * 2) b) (all_take (λ x. x < 256) (n * 2) b below)) in
+    let words : words_of s ≡ drop from ws = ap words_of e ∙ words-slice from n b ∙ ap (drop from) (take_all n ws (omega (arith, all))) in
+    ap (take cards) f ∙ card_chunks cards (length s / 80) s (omega (arith, sized, all)) (omega arith) bytes ∙ ap (card_lines cards) words
 
--- a card's bytes, as words and as they stand in the record
-pub card_bytes : (b : List ℕ) (place : ℕ) → Below 256 b → (place + 40) * 2 ≤ length b → slice (place * 2) ((place + 40) * 2) b ≡ bytes_of (take 40 (drop place (words_of b)))
-card_bytes b place h k =
-    let s = slice (place * 2) ((place + 40) * 2) b in
-    let l = length-slice (place * 2) ((place + 40) * 2) b k in
-    let e : place + 40 - place ≡ 40 = omega arith in
-    sym (bytes_words s (omega arith) (all_drop (λ x. x < 256) (place * 2) (take ((place + 40) * 2) b) (all_take (λ x. x < 256) ((place + 40) * 2) b h)))
-    ∙ ap bytes_of (words-slice place (place + 40) b ∙ sym (part_slice place (place + 40) (words_of b) (omega arith)) ∙ ap (λ n. take n (drop place (words_of b))) e)
+-- the next of some texts, and the others
+pub text_turn : (texts : List Line) (k : ℕ) → k < length texts → ended (drop k texts) ≡ get_or texts k [] ++ (10 ∷ ended (drop (k + 1) texts))
+unfolding ended
+text_turn texts k h =
+    let next : drop k texts ≡ get_or texts k [] ∷ drop (k + 1) texts = rw add-one (drop-cons texts k [] h) in
+    ap ended next
+
+pub no_texts : (texts : List Line) (k : ℕ) → length texts ≤ k → ended (drop k texts) ≡ []
+unfolding ended
+no_texts texts k h = ap ended (drop_of_length-le texts {i = k} h)
 
 -- a table's rows, told by its length: where it has no columns, their number is nothing
 rows_told : (rows n w : ℕ) → 0 < w → n ≡ rows * w → n / w ≡ rows

@@ -10,6 +10,7 @@ ghost use Rattle.line_plan.specs.Plan.{part, times, tables, plan};
 ghost use Rattle.write_parts.specs.Laid.{fields_of, laid, card_lines, ended, part_text, pair_words};
 
 use counts::Counts;
+use record::Kind;
 use units::{Bytes, Lines, Words};
 
 // The words of a record, as their two bytes.
@@ -20,7 +21,7 @@ fn pairs(whole: &[u8]) -> &[[u8; 2]]
 }
 
 // Writes words as fields.
-// Kept: `out` and `at` are two parameters, here and below, for the reason that is told in report.
+// Kept: `out` and `at` are two parameters, here and below: as a struct with methods they proved in report, but no contract or proof got shorter, and each caller makes the struct and takes its place out again.
 fn write_fields(words: &[[u8; 2]], out: &mut [u8], at: Bytes) -> Bytes
     requires { Room out.old at.0 (fields_of (pair_words words.now)) }
     ensures { Put out.old at.0 (fields_of (pair_words words.now)) out.new result.0 }
@@ -33,7 +34,7 @@ fn write_fields(words: &[[u8; 2]], out: &mut [u8], at: Bytes) -> Bytes
     Bytes(to)
 }
 
-// Writes them as a line.
+// Writes words as the fields of a line.
 fn write_line(words: &[[u8; 2]], out: &mut [u8], at: Bytes) -> Bytes
     requires { Room out.old at.0 (fields_of (pair_words words.now) ++ (10 ∷ [])) }
     ensures { Put out.old at.0 (fields_of (pair_words words.now) ++ (10 ∷ [])) out.new result.0 }
@@ -43,7 +44,7 @@ fn write_line(words: &[[u8; 2]], out: &mut [u8], at: Bytes) -> Bytes
     Bytes(end + 1)
 }
 
-// Writes them in lines of 20.
+// Writes words in lines of 20 fields.
 fn write_part(words: &[[u8; 2]], out: &mut [u8], at: Bytes) -> Bytes
     requires { Room out.old at.0 (part_text (pair_words words.now)) }
     ensures { Put out.old at.0 (part_text (pair_words words.now)) out.new result.0 }
@@ -77,10 +78,10 @@ pub fn write_cards(whole: &[u8], from: Words, cards: Lines, out: &mut [u8], at: 
     requires { (from.0 + words_of_cards cards.0 ≤ length (words_of whole.now)) × Room out.old at.0 (ended (card_lines cards.0 (drop from.0 (words_of whole.now)))) }
     ensures { Put out.old at.0 (ended (card_lines cards.0 (drop from.0 (words_of whole.now)))) out.new result.0 }
 {
+    let rest = words::span(whole, from, words::count(whole));
+    let texts = &rest.as_chunks::<80>().0[..cards.0];
     let mut to = at.0;
-    for k in 0..cards.0 {
-        let place = from.0 + 40 * k;
-        let card = words::span(whole, Words(place), Words(place + 40));
+    for card in texts {
         let end = words::write_bytes(card, out, Bytes(to)).0;
         out[end] = b'\n';
         to = end + 1;
@@ -114,7 +115,8 @@ fn write_prologue(whole: &[u8], lines: u16, lprol: Words, out: &mut [u8], at: By
     ensures { Put out.old at.0 (ended (laid (part lprol.0) (lines ∷ (1101 ∷ drop 2 (words_of whole.now))))) out.new result.0 }
 {
     let first = line_plan::on_line(lprol);
-    let to = write_head(whole, lines, 1101, first, out, at);
+    let kind = Kind::Data.shown();
+    let to = write_head(whole, lines, kind, first, out, at);
     write_part(&pairs(whole)[first.0..lprol.0], out, to)
 }
 
@@ -139,6 +141,7 @@ pub fn write_plan(whole: &[u8], lines: u16, c: Counts, out: &mut [u8], at: Bytes
     requires { (16 ≤ c.lprol) × (words_needed c ≤ length (words_of whole.now)) × Room out.old at.0 (ended (laid (plan c) (lines ∷ (1101 ∷ drop 2 (words_of whole.now))))) }
     ensures { Put out.old at.0 (ended (laid (plan c) (lines ∷ (1101 ∷ drop 2 (words_of whole.now))))) out.new result.0 }
 {
-    let to = write_prologue(whole, lines, Words(c.lprol as usize), out, at);
+    let lprol = units::words_said(c.lprol);
+    let to = write_prologue(whole, lines, lprol, out, at);
     write_tables(whole, c, out, to)
 }
