@@ -2,12 +2,11 @@ use Rattle.write_parts.proofs.Turns.{cards_told, text_turn, no_texts}
 use Rattle.write_parts.specs.Laid.{ended}
 use Rattle.words.proofs.Writing.{Going, fits, on, byte_put, done}
 use Rattle.words.proofs.Laws.{length_words_of}
-use Rattle.words.specs.Words.{words_of}
-use Rattle.words.specs.Writing.{Room, Put}
+use Rattle.words.specs.Writing.{Room}
 use lib.ListN.{length}
 use lib.Seq.{length-take-le, length-slice}
 use native.Mathlib.Omega.{arith}
-use mathlib.Core.List.{List, [], ◌∷◌, ◌++◌}
+use mathlib.Core.List.{List, [], ◌∷◌}
 use mathlib.Core.Path.{◌≡◌, refl, sym, ap, ◌∙◌}
 use Prim.Native.Nat.{ℕ, ◌+◌, ◌*◌, ◌≤◌}
 use Rattle.write_parts.proofs.write_cards.Goals as goal
