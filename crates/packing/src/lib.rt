@@ -32,7 +32,7 @@ impl Current {
     }
 
     // The block that a record of `k` words goes into: this one if it fits, else a new one.
-    // Kept: the most that `k` may be is said here, in `with_record` and in repacking's `make_room`: the public `room_for` and `with_record` take any `Words`, and no type of theirs may be narrower.
+    // Kept: the most that `k` may be is said here, in `with_record` and in repacking's `make_room`: the public `room_for` and `with_record` take it as `Words`, and no type of theirs may be narrower.
     #[tactic(auto, unfolding(crate::specs::Current::room_for))]
     pub fn room_for(self, k: Words) -> Current
         requires { (self.used.0 ≤ most_record_words) × (k.0 ≤ most_record_words) × (self.start.0 ≤ count_limit) }
