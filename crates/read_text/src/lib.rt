@@ -63,6 +63,7 @@ pub fn judged_numbers(j: Result<Bytes, Flaw>) -> Answer
 }
 
 // The four numbers of what becomes of it: row 29 where the block is too short.
+// Kept: one line, as in write_lines and repacking: the row of a short output belongs to the call and not to the refusal's type, and the names are public (docs/PROMISES.md).
 pub fn built_numbers(b: Result<Bytes, Unwritten<Flaw>>) -> Answer
     ensures { (result ≡ fitted (built_of b)) × (result.a < 2 ^ 24) }
 {

@@ -142,6 +142,7 @@ pub fn repack(slice: &[u8], out: &mut [u8]) -> Result<Bytes, Unwritten<SliceRefu
 }
 
 // The four numbers of an answer.
+// Kept: one line, as in write_lines and read_text: the row of a short output belongs to the call and not to the refusal's type, and the names are public (docs/PROMISES.md).
 pub fn numbers(r: Result<Bytes, Unwritten<SliceRefusal>>) -> Answer
     ensures { (result ≡ fitted (repacked_of r)) × (result.a < 2 ^ 24) }
 {

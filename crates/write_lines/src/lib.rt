@@ -22,6 +22,7 @@ use record::Kind;
 use units::{Answer, Bytes, Lines, Unwritten, Words};
 
 // What a good record is.
+// Kept: that a record is good is required here and below, and no invariant of a struct: a walk goes over any block, as its promise says, so what it lends is bytes.
 fn kind_of(whole: &[u8]) -> Kind
     requires { BlockRecord (words_of whole.now) }
     ensures { word (words_of whole.now) 2 ≡ kind_word result }
@@ -38,7 +39,8 @@ fn count_shown(whole: &[u8]) -> u16
 }
 
 // Writes a Data record's lines.
-// Kept: `out` and `at` are two parameters, here and below: a struct that holds the lent output was tried in report, and each contract must then say besides that it is still the same slice.
+// Kept: `out` and `at` are two parameters, here and below: as a struct with methods they proved in report, but no contract or proof got shorter, and each caller makes the struct and takes its place out again.
+// Kept: `Writable` is one name for what these three require: it holds of a record, an output and a place together, of which the output and the place stay two parameters.
 fn write_data(whole: &[u8], out: &mut [u8], at: Bytes) -> Bytes
     requires { Writable whole.now out.old at.0 × (word (words_of whole.now) 2 ≡ 1002) }
     ensures { Put out.old at.0 (ended (lines_of (words_of whole.now))) out.new result.0 }
@@ -98,6 +100,7 @@ fn record_size(whole: &[u8]) -> Bytes
 }
 
 // The bytes of an accepted block's text.
+// Kept: that a block is accepted is required here and below, and no invariant of a type: the public `write_records` and `block_value::exchange` ask it of a block's bytes, and `exchange` writes into them.
 fn text_size(block: &[u8]) -> Bytes
     requires { Accepted block.now }
     ensures { result.0 ≡ length (text_of (records_of block.now)) }
@@ -127,8 +130,7 @@ fn write_text(block: &[u8], text: &mut [u8]) -> Result<Bytes, Unwritten<Refusal>
     ensures { leaves (lined_of result) text.new ≡ written 29 text.old (passed (text_of (records_of block.now))) }
 {
     let needed = text_size(block);
-    let bytes = needed.0;
-    if text.len() < bytes {
+    if text.len() < needed.0 {
         return Err(Unwritten::Short(needed));
     }
     Ok(write_records(block, text))
@@ -143,6 +145,7 @@ pub fn to_lines(block: &[u8], text: &mut [u8]) -> Result<Bytes, Unwritten<Refusa
 }
 
 // The four numbers of an answer.
+// Kept: one line, as in read_text and repacking: the row of a short output belongs to the call and not to the refusal's type, and the names are public (docs/PROMISES.md).
 pub fn numbers(l: Result<Bytes, Unwritten<Refusal>>) -> Answer
     ensures { (result ≡ fitted (lined_of l)) × (result.a < 2 ^ 24) }
 {
