@@ -25,7 +25,7 @@ impl From<Fault> for Refusal {
     ghost from_gives = { λ f r. r ≡ Record f };
 
     fn from(f: Fault) -> Refusal {
-        Refusal::Record(f)
+        Self::Record(f)
     }
 }
 

@@ -34,16 +34,16 @@ in_range c =
     else 4
 
 -- how many stand before this one
-abbrev pub place_of : Count → ℕ
-place_of Lprol = 0
-place_of Jpar = 1
-place_of Mpar = 2
-place_of Nrow = 3
+abbrev pub order_of : Count → ℕ
+order_of Lprol = 0
+order_of Jpar = 1
+order_of Mpar = 2
+order_of Nrow = 3
 
--- the same number, of the first that is under its least value
+-- the number of `in_range`, as a result tells it: all four are, or which is the first that is not
 abbrev pub range_of : Result ⊤ Count → ℕ
 range_of (Ok x) = 4
-range_of (Err c) = place_of c
+range_of (Err c) = order_of c
 
 -- "JPAR codes follow the prologue, then JPAR values, MPAR codes, and NROW rows of MPAR values": word w is one of the values
 abbrev pub among_values : Counts → ℕ → Bool

@@ -17,7 +17,7 @@ pub struct Counts {
 }
 
 // One of the four, in their order.
-#[derive(Clone, Copy, PartialEq, Eq)]
+#[derive(Clone, Copy)]
 pub enum Count {
     Lprol,
     Jpar,
@@ -26,6 +26,7 @@ pub enum Count {
 }
 
 // The four counts of a Data record.
+// Kept: the clause of 16 words stands here and in `record`, as it stood: it may not change where a function is public.
 pub fn counts_of(whole: &[u8]) -> Counts
     requires { 16 ≤ length (words_of whole.now) }
     ensures { result ≡ counts_of (words_of whole.now) }
@@ -46,8 +47,8 @@ pub fn counts_of(whole: &[u8]) -> Counts
 pub fn words_needed(c: Counts) -> Words
     ensures { result.0 ≡ words_needed c }
 {
-    let rows = (c.mpar as usize) * (c.nrow as usize + 1);
-    let sum = c.lprol as usize + 2 * (c.jpar as usize) + rows;
+    let rows = usize::from(c.mpar) * (usize::from(c.nrow) + 1);
+    let sum = usize::from(c.lprol) + 2 * usize::from(c.jpar) + rows;
     Words(sum)
 }
 
@@ -86,7 +87,7 @@ pub fn lines_needed(c: Counts) -> Lines
     let prologue = units::lines_of_fields(units::words_said(c.lprol)).0;
     let single = units::lines_of_fields(units::words_said(c.jpar)).0;
     let row = units::lines_of_fields(units::words_said(c.mpar)).0;
-    let rows = row * (c.nrow as usize + 1);
+    let rows = row * (usize::from(c.nrow) + 1);
     Lines(prologue + 2 * single + rows)
 }
 
@@ -95,9 +96,9 @@ pub fn among_values(word: Words, c: Counts) -> bool
     ensures { result ≡ among_values c word.0 }
 {
     let w = word.0;
-    let codes = c.lprol as usize + c.jpar as usize;
-    let values = codes + c.jpar as usize;
-    let row_codes = values + c.mpar as usize;
+    let codes = usize::from(c.lprol) + usize::from(c.jpar);
+    let values = codes + usize::from(c.jpar);
+    let row_codes = values + usize::from(c.mpar);
     let last = words_needed(c).0;
     (codes + 1..=values).contains(&w) || (row_codes + 1..=last).contains(&w)
 }

@@ -26,12 +26,9 @@ impl Kind {
     pub fn of_word(word: u16) -> Option<Kind>
         ensures { SaysKind kind_word word result }
     {
-        match word {
-            2001 => Some(Kind::Catalogue),
-            3002 => Some(Kind::Header),
-            1002 => Some(Kind::Data),
-            _ => None,
-        }
+        [Kind::Catalogue, Kind::Header, Kind::Data]
+            .into_iter()
+            .find(|kind| kind.word() == word)
     }
 
     // The number that the lines of a record of this kind show.
@@ -49,11 +46,8 @@ impl Kind {
     pub fn of_shown(number: u16) -> Option<Kind>
         ensures { SaysKind kind_number number result }
     {
-        match number {
-            2101 => Some(Kind::Catalogue),
-            3101 => Some(Kind::Header),
-            1101 => Some(Kind::Data),
-            _ => None,
-        }
+        [Kind::Catalogue, Kind::Header, Kind::Data]
+            .into_iter()
+            .find(|kind| kind.shown() == number)
     }
 }

@@ -64,6 +64,9 @@ fn passing_in(rest: &[u8], from: Words, upto: Words, least: u16, most: u16) -> W
     words::first_outside(words::span(rest, from, upto), least, most)
 }
 
+// Kept: `rest` and `number` are two parameters, here and below: a struct of them is no plainer, since each clause and each call would take both out of it
+// again (`words_of here.rest.now`, `words::word_at(here.rest, ..)`), while `judge_counts` takes the number alone and the public `judge_record` makes the struct.
+
 // The content of a Catalogue or a Header of `total` words: zeros from word `first` to 40, then cards.
 fn judge_content(rest: &[u8], number: u16, first: Words, total: Words) -> Result<Words, Fault>
     requires { TotalRight total.0 (length (words_of rest.now)) × (total.0 < 65536) × (1 ≤ first.0) × (first.0 ≤ 40) }
@@ -82,6 +85,8 @@ fn judge_content(rest: &[u8], number: u16, first: Words, total: Words) -> Result
     }
     Ok(total)
 }
+
+// Kept: the clause of 16 words is here and in `judge_data` as it is in the public `line_count`, `is_value` and `counts::counts_of`, whose clauses may not change.
 
 // A Catalogue or a Header, whose words from `first` to 40 must be zero.
 #[tactic(auto, unfolding(crate::specs::Judging::judge_cards))]
@@ -152,7 +157,7 @@ pub fn line_count(whole: &[u8]) -> Lines
     requires { 16 ≤ length (words_of whole.now) }
     ensures { result.0 ≡ line_count (words_of whole.now) }
 {
-    if words::word_at(whole, Words(1)) == Kind::Data.word() {
+    if Kind::of_word(words::word_at(whole, Words(1))) == Some(Kind::Data) {
         counts::lines_needed(counts::counts_of(whole))
     } else {
         units::lines_of_cards(words::count(whole))
@@ -165,6 +170,6 @@ pub fn is_value(whole: &[u8], word: Words) -> bool
     requires { 16 ≤ length (words_of whole.now) }
     ensures { result ≡ is_value (words_of whole.now) word.0 }
 {
-    words::word_at(whole, Words(1)) == Kind::Data.word()
+    Kind::of_word(words::word_at(whole, Words(1))) == Some(Kind::Data)
         && counts::among_values(word, counts::counts_of(whole))
 }

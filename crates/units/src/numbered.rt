@@ -21,7 +21,7 @@ pub trait Numbered {
     ghost packs: { room ≤ 2 ^ 24 };
 }
 
-// A word that is found, or the refusal.
+// A count, or the refusal.
 impl<E: Numbered> Numbered for Result<u16, E> {
     ghost numbers_of = { λ r. answered (verdict_of (λ n. n) E.numbers_of r) };
 
@@ -58,8 +58,8 @@ pub fn written<R: Numbered>(short: u8, r: Result<Bytes, Unwritten<R>>) -> Answer
     ensures { (result ≡ fitted (written_of short R.numbers_of r)) × (result.a < 2 ^ 24) }
 {
     match r {
-        Ok(size) => crate::sized(0, size),
+        Ok(bytes) => crate::sized(0, bytes),
         Err(Unwritten::Refused(why)) => why.numbers(),
-        Err(Unwritten::Short(size)) => crate::sized(short, size),
+        Err(Unwritten::Short(bytes)) => crate::sized(short, bytes),
     }
 }

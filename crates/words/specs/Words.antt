@@ -1,6 +1,7 @@
 -- Document 01, "The binary block": 16-bit words, high byte first, and what stands around the records of a block.
-use Rattle.std.specs.Prelude.{ℕ, ◌+◌, ◌-◌, ◌*◌, ◌/◌, ◌%◌, ◌<◌, List, [], ◌∷◌, ◌++◌, length, get_or}
+use Rattle.std.specs.Prelude.{ℕ, ◌+◌, ◌-◌, ◌*◌, ◌/◌, ◌%◌, ◌<◌, List, [], ◌∷◌, ◌++◌, length, get_or, map}
 use Rattle.std.proofs.Math.Seq.{slice}
+use Rattle.std.specs.Int.{w16, from_be_bytes}
 use Rattle.std.specs.Int.Bits.{bit_xor}
 
 -- "Words are 16 bits, high byte first": each two bytes are a word
@@ -8,6 +9,10 @@ unfoldable pub words_of : List ℕ → List ℕ
 words_of [] = []
 words_of (h ∷ []) = []
 words_of (h ∷ l ∷ t) = (h * 256 + l) ∷ words_of t
+
+-- the words that pairs of bytes say, high byte first
+abbrev pub pair_words : List (List ℕ) → List ℕ
+pair_words pairs = map (from_be_bytes w16) pairs
 
 -- the words' bytes
 unfoldable pub bytes_of : List ℕ → List ℕ

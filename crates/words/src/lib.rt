@@ -1,14 +1,14 @@
 // 16-bit words in bytes, high byte first: read, put, sealed in a block; scans of them, and bytes put into a buffer.
 #![tactic(auto)]
 
-ghost use Rattle.std.specs.Prelude.{◌≡◌, ◌∷◌, [], ◌++◌, ◌+◌, ◌<◌, ◌≤◌, length, get_or, drop, map};
+ghost use Rattle.std.specs.Prelude.{◌≡◌, ◌∷◌, [], ◌++◌, ◌+◌, ◌<◌, ◌≤◌, length, get_or, drop};
 ghost use Rattle.std.specs.Int.{w16, from_be_bytes};
 ghost use Rattle.std.proofs.lemmas.List.Edits.{sets};
 ghost use Rattle.std.proofs.Math.Seq.{slice};
 ghost use Rattle.units.specs.Units.{bytes_of_words};
 ghost use Rattle.words.specs.Scans.{passing, word_within};
 ghost use Rattle.words.specs.Writing.{Room, Put};
-ghost use Rattle.words.specs.Words.{words_of, bytes_of, xor_all, words, most_record_words, block_from, All, Below};
+ghost use Rattle.words.specs.Words.{words_of, bytes_of, pair_words, xor_all, words, most_record_words, block_from, All, Below};
 
 use units::{Bytes, Words};
 
@@ -23,8 +23,8 @@ pub fn count(part: &[u8]) -> Words
 }
 
 // The words of a part, as their two bytes, high byte first.
-fn pairs(part: &[u8]) -> &[[u8; 2]]
-    ensures words { map (from_be_bytes w16) result.now ≡ words_of part.now }
+pub fn pairs(part: &[u8]) -> &[[u8; 2]]
+    ensures words { pair_words result.now ≡ words_of part.now }
     ensures bytes { All (Below 256) result.now }
 {
     part.as_chunks().0
@@ -67,11 +67,12 @@ pub fn exclusive_or(part: &[u8]) -> u16
 }
 
 // Both bytes of a word lie from `least` to `most`.
-fn word_within(w: u16, least: u16, most: u16) -> bool
-    ensures { result ≡ word_within least most w }
+fn word_within(pair: [u8; 2], least: u16, most: u16) -> bool
+    ensures { result ≡ word_within least most (from_be_bytes w16 pair) }
 {
+    let [high, low] = pair;
     let within = least..=most;
-    within.contains(&(w / 256)) && within.contains(&(w % 256))
+    within.contains(&u16::from(high)) && within.contains(&u16::from(low))
 }
 
 // The words before the first of `part` that has a byte outside of `least` to `most`.
@@ -79,7 +80,9 @@ pub fn first_outside(part: &[u8], least: u16, most: u16) -> Words
     ensures { result.0 ≡ passing (word_within least most) (words_of part.now) }
 {
     let words = pairs(part);
-    let found = words.iter().position(|pair| !word_within(u16::from_be_bytes(*pair), least, most));
+    let found = words
+        .iter()
+        .position(|pair| !word_within(*pair, least, most));
     Words(found.unwrap_or(words.len()))
 }
 
