@@ -1,4 +1,5 @@
 // The calls for C as functions, and nothing else: each returns its answer's four numbers as one. `cedar_c` exports them.
+// Kept: `cedar_c` has each signature and promise a second time: a crate is built as a library or as a static library, and the exports are C's interface.
 #![tactic(auto)]
 
 ghost use Rattle.std.specs.Prelude.{[], ◌∷◌};

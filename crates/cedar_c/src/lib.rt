@@ -1,4 +1,5 @@
 // What a C program links: each export is the call of `cedar` with its name, and promises the same. C's prototype stands above it.
+// Kept: each signature and promise of `cedar` a second time: a crate is built as a library or as a static library, and the exports are C's interface.
 #![tactic(auto)]
 
 ghost use Rattle.std.specs.Prelude.{[], ◌∷◌};

@@ -4,6 +4,7 @@
 use std::io;
 use std::io::Print;
 
+// Kept: a function for each way, here and below: what prints takes an array of a size of its own (`read_input::with_input` says why the call is no parameter), and the block's array is made only where there is a block.
 fn put_block(rt: &HostRuntime, text: &[u8]) -> io::Result<()> {
     let mut block = [0u8; printed::BLOCK_BYTES];
     let end = printed::print_block(text, &mut block).0;

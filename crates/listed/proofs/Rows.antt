@@ -1,7 +1,8 @@
 -- A listing, a record at a time, and a record's line, a piece at a time.
 use mathlib.Core.Path.{◌≡◌, refl, sym, ap, ◌∙◌}
 use mathlib.Core.List.{List, [], ◌∷◌, ◌++◌, append_assoc}
-use Prim.Native.Nat.{ℕ, ◌+◌, ◌-◌, ◌≤◌, ◌<◌}
+use Prim.Native.Nat.{ℕ, ◌+◌, ◌-◌, ◌%◌, ◌≤◌, ◌<◌}
+use native.Mathlib.Omega.{arith}
 use borrow.Author.Tests.{lt-ltb, le-ltb}
 use lib.ListN.{length}
 use Rattle.words.specs.Words.{word}
@@ -13,13 +14,17 @@ use Rattle.report.specs.Decimal.{decimal_of, spaced}
 use Rattle.report.proofs.Lines.{behind_numbers}
 use Rattle.listed.specs.Listing.{signed_of, letters_of, front_of, row_of, rows_of}
 
-pub signed_plain : (w : ℕ) → w < 32768 → signed_of w ≡ decimal_of w
+pub signed_plain : (w value : ℕ) → value ≡ w → w < 32768 → signed_of w ≡ decimal_of value
 unfolding signed_of
-signed_plain w h = simp (lt-ltb w 32768 h)
+signed_plain w value e h = rw e (simp (lt-ltb w 32768 h))
 
-pub signed_below : (w : ℕ) → 32768 ≤ w → signed_of w ≡ (45 ∷ []) ++ decimal_of (65536 - w)
+pub signed_from : (w : ℕ) → 32768 ≤ w → signed_of w ≡ (45 ∷ []) ++ decimal_of (65536 - w)
 unfolding signed_of
-signed_below w h = simp (le-ltb w 32768 h)
+signed_from w h = simp (le-ltb w 32768 h)
+
+-- the word and its negative come to 65,536
+pub signed_below : (w size : ℕ) → (size + w) % 65536 ≡ 0 → size < 65536 → w < 65536 → 32768 ≤ w → signed_of w ≡ (45 ∷ []) ++ decimal_of size
+signed_below w size e small word h = let is : size ≡ 65536 - w = omega arith in rw is (signed_from w h)
 
 -- the end of the line: the instrument and its prefix
 abbrev pub ending : ℕ → List ℕ
@@ -44,7 +49,7 @@ row_pieces number before w r e = rw e
     ∙ sym (append_assoc (decimal_of number) (spaced ((before + 1) ∷ (word r 2 ∷ (length r ∷ (line_count r ∷ []))))) (ending (word r 3))))
 
 -- the line of a record of n words, and those of the records behind it
-pub rows_on : (number before n : ℕ) (r : List ℕ) (rs : List (List ℕ)) → n ≡ length r
-    → rows_of number before (r ∷ rs) ≡ row_of number before r ++ rows_of (number + 1) (before + n) rs
+pub rows_on : (number before n : ℕ) (r : List ℕ) (rs : List (List ℕ)) → n ≡ length r → {shown next : ℕ} → shown ≡ number → next ≡ shown + 1
+    → rows_of number before (r ∷ rs) ≡ row_of shown before r ++ rows_of next (before + n) rs
 unfolding rows_of
-rows_on number before n r rs e = rw e
+rows_on number before n r rs e s t = rw (e, t, s)

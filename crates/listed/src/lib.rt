@@ -18,16 +18,18 @@ use units::{Bytes, Numbered, Words};
 pub const LISTING_BYTES: usize = 32768;
 
 // Puts the number that a word stands for in two's complement.
+// Kept: `out` and `at` are two parameters, here and below: a struct of the two was tried in `report`: it proves, no clause or proof gets shorter, and each caller makes the struct and takes its place out again.
 fn write_signed(w: u16, out: &mut [u8], at: Bytes) -> Bytes
     requires { Room out.old at.0 (signed_of w) }
     ensures { Put out.old at.0 (signed_of w) out.new result.0 }
 {
-    let value = w as u32;
+    let value = u32::from(w);
     if value < 32768 {
         return report::write_number(value, out, at);
     }
     let to = words::write_bytes(b"-", out, at);
-    report::write_number(65536 - value, out, to)
+    let size = u32::from(w.wrapping_neg());
+    report::write_number(size, out, to)
 }
 
 // Puts the end of a record's line: the instrument and its prefix.
@@ -47,7 +49,7 @@ fn write_front(number: u32, before: Words, whole: &[u8], out: &mut [u8], at: Byt
     ensures { Put out.old at.0 (front_of number before.0 (words_of whole.now)) out.new result.0 }
 {
     let position = (before.0 + 1) as u32;
-    let kind = words::word_at(whole, Words(1)) as u32;
+    let kind = u32::from(words::word_at(whole, Words(1)));
     let count = words::count(whole).0 as u32;
     let lines = record::line_count(whole).0 as u32;
     let to = report::write_number(number, out, at);
@@ -65,18 +67,16 @@ fn write_row(number: u32, before: Words, whole: &[u8], out: &mut [u8], at: Bytes
 }
 
 // Puts the lines of an accepted block's records.
-// Kept: the number and the place are counted beside the walk: `enumerate` would give the number less one, and not the place.
+// Kept: the place is counted beside the walk, which lends each record as bytes without its place (no clause of `block_steps::records` tells one): an iterator of places would be `step` again.
 fn write_listing(block: &[u8], out: &mut [u8]) -> Bytes
     requires { Accepted block.now × Room out.old 0 (rows_of 1 1 (records_of block.now)) }
     ensures { Put out.old 0 (rows_of 1 1 (records_of block.now)) out.new result.0 }
 {
     let mut at = 1;
-    let mut number: u32 = 1;
     let mut to = Bytes(0);
-    for whole in block_steps::records(block) {
+    for (number, whole) in (1u32..).zip(block_steps::records(block)) {
         to = write_row(number, Words(at), whole, out, to);
         at += words::count(whole).0;
-        number += 1;
     }
     to
 }

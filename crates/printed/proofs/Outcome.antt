@@ -12,8 +12,8 @@ use Rattle.words.specs.Outcomes.{written, leaves}
 use Rattle.words.specs.Writing.{Room, Put}
 use Rattle.words.proofs.Writing.{all-written}
 use Rattle.words.proofs.Sealing.{length-framed}
-use Rattle.block.specs.Judging.{judged, Accepted}
-use Rattle.block.specs.Cases.{judged_of, refusal_of}
+use Rattle.block.specs.Judging.{judged}
+use Rattle.block.specs.Cases.{refusal_of}
 use Rattle.block.specs.declared.Refusal.{Refusal}
 use Rattle.block.specs.declared.Refusal.TheVariants.{Size, WordCount, Checksum, Record}
 use Rattle.record.specs.Cases.{fault_of}
@@ -31,7 +31,6 @@ use Rattle.units.specs.declared.Unwritten.TheVariants.{Refused, Short}
 use Rattle.std.specs.Prelude.{Result, Ok, Err}
 use Rattle.block.proofs.Known.{judged_known}
 use Rattle.block.specs.Records.{records_of}
-use Rattle.block.proofs.Known.{accepted_by}
 use Rattle.write_lines.specs.Text.{text_of}
 use Rattle.write_lines.proofs.Sizes.{text_bound}
 use Rattle.read_records.specs.Reading.{read_text}
@@ -70,14 +69,6 @@ module _ {A : Type 0} (f : A → List ℕ) {v : Verdict A} {out : List ℕ} (h :
 
   pub prints_refused : {r s : Answer} → v ≡ refused r → s ≡ r → Prints out (or_refusal f v) (refusal_line s)
   prints_refused e is = prints h (ap (or_refusal f) e ∙ ap refusal_line (sym is))
-
--- of a block: a text for all its records, or the line of its refusal
-module _ (text b : List ℕ) {out : List ℕ} {j : Result ℕ Refusal} (h : Room out 0 (or_refusal (λ _. text) (judged b))) (e : judged_of j ≡ judged b) where
-  pub accepted_prints : {k : ℕ} → j ≡ Ok k → Accepted b × Prints out (or_refusal (λ _. text) (judged b)) text
-  accepted_prints is = let a = accepted_by b e is in (a, prints_passed (λ _. text) h a.is)
-
-  pub refused_prints : {r : Refusal} {s : Answer} → j ≡ Err r → s ≡ refusal_of r → Prints out (or_refusal (λ _. text) (judged b)) (refusal_line s)
-  refused_prints is says = prints_refused (λ _. text) h (sym e ∙ ap judged_of is) says
 
 pub lines_bound : (b : List ℕ) → Below 256 b → length (lines_printed b) ≤ 55971
 lines_bound b h = printed_most (λ _. text_of (records_of b)) 55971 (omega arith) (judged b) (λ k e. text_bound b h (record { count = k; is = e }))

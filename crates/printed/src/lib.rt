@@ -45,6 +45,7 @@ pub fn print_size(text: &[u8], out: &mut [u8; SIZE_BYTES]) -> Bytes
 }
 
 // Gives the end of what a conversion has written; where it has written nothing, puts the line that says why, and gives the end of that.
+// Kept: `short` is a number, 29 or 50: the call has it and not the refusal's type, and `lined_of`, `built_of`, `repacked_of` have it so by `written_of`.
 fn end_or_refusal<R: Numbered>(
     found: Result<Bytes, Unwritten<R>>,
     short: u8,

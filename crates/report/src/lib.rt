@@ -9,7 +9,7 @@ ghost use Rattle.report.specs.Refusal.{refusal_line};
 use units::{Answer, Bytes};
 
 // Puts one digit.
-// Kept: `out` and `at` are two parameters, here and below: a struct that holds the lent slice was tried, and each contract must then say besides that it is still the same slice.
+// Kept: `out` and `at` are two parameters, here and below: a struct of the two was tried here: it proves, no clause or proof gets shorter, and each caller makes the struct and takes its place out again.
 fn write_digit(d: u32, out: &mut [u8], at: Bytes) -> Bytes
     requires { (d < 10) × Room out.old at.0 ((48 + d) ∷ []) }
     ensures { Put out.old at.0 ((48 + d) ∷ []) out.new result.0 }

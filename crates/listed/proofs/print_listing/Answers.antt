@@ -6,7 +6,7 @@ use Rattle.words.proofs.Laws.{all_below}
 use Rattle.std.proofs.Common.{List, ℕ, ◌≤◌}
 use Rattle.listed.specs.Listing.{listing_of}
 use Rattle.listed.proofs.Sizes.{listing_bound}
-use Rattle.printed.proofs.Outcome.{accepted_prints, refused_prints}
+use Rattle.listed.proofs.Outcome.{accepted_prints, refused_prints}
 use Rattle.listed.proofs.print_listing.Goals as goal
 
 -- a buffer of so many bytes has room

@@ -1,4 +1,5 @@
 use Rattle.std.proofs.Common.{List, ℕ, ◌+◌, ◌<◌, ◌≤◌, length}
+use Rattle.std.specs.Iterator.Adapters.{zip_first, zip_second}
 use Rattle.words.specs.Words.{joined, most_words}
 use Rattle.words.proofs.Writing.{Going}
 use Rattle.block.specs.Records.{records_of}
@@ -12,5 +13,5 @@ pub record Rows (block before out : List ℕ) (at number to : ℕ) (rs : List (L
   pub within : at + length (joined rs) < most_words
   pub going : Going before 0 (rows_of 1 1 (records_of block)) out to (rows_of number at rs)
 
-abbrev pub invariant-loop-whole : goal.invariant-loop-whole
-invariant-loop-whole l = Loop l.whole-iterator (Rows l.block l.initial.out l.out l.at l.number l.to.0)
+abbrev pub invariant-loop-number : goal.invariant-loop-number
+invariant-loop-number l = Loop (zip_second l.number-iterator) (Rows l.block l.initial.out l.out l.at (zip_first l.number-iterator).start l.to.0)
