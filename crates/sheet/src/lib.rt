@@ -71,7 +71,7 @@ fn more_stands(sheet: &[u8], count: u16) -> bool
     ensures { result ≡ not (all_zero (drop (count * version1.words) (numbers_in sheet.now))) }
 {
     let before = units::bytes_of_words(before_entry(count)).0;
-    // Kept: or-ed to its end: `any` was tried, and takes a byte at a time: amend-undo-k of bench/run takes 5,801 instructions with it, 1,014 so, and 3,393 with the search by `first_outside` that stood here before.
+    // Kept: or-ed to its end: `any` was tried, and takes a byte at a time: amend-undo-k of bench/run takes 5,801 instructions with it, 1,028 so, and 3,393 with the search by `first_outside` that stood here before.
     sheet[before..].iter().fold(0, |seen, byte| seen | *byte) != 0
 }
 
