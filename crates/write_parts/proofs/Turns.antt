@@ -20,7 +20,8 @@ use Rattle.units.specs.Units.{Line}
 use Rattle.counts.specs.declared.Counts.{Counts}
 use Rattle.line_plan.specs.Plan.{part, times, tables, plan}
 use Rattle.line_plan.proofs.Plans.{part_turn, fields_in, fields_in-part, fields_in-times}
-use Rattle.write_parts.specs.Laid.{fields_of, laid, card_lines, ended, part_text, pair_words}
+use Rattle.write_parts.specs.Laid.{fields_of, laid, card_lines, ended, part_text}
+use Rattle.words.specs.Words.{pair_words}
 
 pub length_fields_of : (ws : List ℕ) → length (fields_of ws) ≡ 6 * length ws
 unfolding fields_of

@@ -1,6 +1,5 @@
 -- Document 01, "The lines": words laid out in lines of number fields and in cards.
-use Rattle.std.specs.Prelude.{ℕ, zero, suc, List, [], ◌∷◌, ◌++◌, length, map, take, drop}
-use Rattle.std.specs.Int.{w16, from_be_bytes}
+use Rattle.std.specs.Prelude.{ℕ, zero, suc, List, [], ◌∷◌, ◌++◌, length, take, drop}
 use Rattle.units.specs.Units.{Line}
 use Rattle.words.specs.Words.{bytes_of}
 use Rattle.field.specs.Writing.{field_of}
@@ -29,7 +28,3 @@ ended (l ∷ ls) = l ++ (10 ∷ ended ls)
 -- words in lines of their own
 abbrev pub part_text : List ℕ → List ℕ
 part_text ws = ended (laid (part (length ws)) ws)
-
--- the words that pairs of bytes say, high byte first
-abbrev pub pair_words : List (List ℕ) → List ℕ
-pair_words pairs = map (from_be_bytes w16) pairs

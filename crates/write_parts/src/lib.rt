@@ -3,22 +3,15 @@
 
 ghost use Rattle.std.specs.Prelude.{ℕ, [], ◌∷◌, ◌++◌, ◌≡◌, ◌+◌, ◌*◌, ◌≤◌, length, take, drop};
 ghost use Rattle.units.specs.Units.{words_of_cards};
-ghost use Rattle.words.specs.Words.{words_of};
+ghost use Rattle.words.specs.Words.{words_of, pair_words};
 ghost use Rattle.words.specs.Writing.{Room, Put};
 ghost use Rattle.counts.specs.Counts.{words_needed};
 ghost use Rattle.line_plan.specs.Plan.{part, times, tables, plan};
-ghost use Rattle.write_parts.specs.Laid.{fields_of, laid, card_lines, ended, part_text, pair_words};
+ghost use Rattle.write_parts.specs.Laid.{fields_of, laid, card_lines, ended, part_text};
 
 use counts::Counts;
 use record::Kind;
 use units::{Bytes, Lines, Words};
-
-// The words of a record, as their two bytes.
-fn pairs(whole: &[u8]) -> &[[u8; 2]]
-    ensures { pair_words result.now ≡ words_of whole.now }
-{
-    whole.as_chunks().0
-}
 
 // Writes words as fields.
 // Kept: `out` and `at` are two parameters, here and below: as a struct with methods they proved in report, but no contract or proof got shorter, and each caller makes the struct and takes its place out again.
@@ -106,7 +99,7 @@ pub fn write_head(
     let third = second + 6;
     field::write_field(out, Bytes(first), lines);
     field::write_field(out, Bytes(second), kind);
-    write_line(&pairs(whole)[2..fields.0], out, Bytes(third))
+    write_line(&words::pairs(whole)[2..fields.0], out, Bytes(third))
 }
 
 // Writes the prologue of a Data record, `lprol` words in lines of 20.
@@ -117,7 +110,7 @@ fn write_prologue(whole: &[u8], lines: u16, lprol: Words, out: &mut [u8], at: By
     let first = line_plan::on_line(lprol);
     let kind = Kind::Data.shown();
     let to = write_head(whole, lines, kind, first, out, at);
-    write_part(&pairs(whole)[first.0..lprol.0], out, to)
+    write_part(&words::pairs(whole)[first.0..lprol.0], out, to)
 }
 
 // Writes the tables of a Data record: the 1-D codes and values, the 2-D codes and rows.
@@ -131,9 +124,9 @@ fn write_tables(whole: &[u8], c: Counts, out: &mut [u8], at: Bytes) -> Bytes
     let rows = c.nrow as usize + 1;
     let table = codes + 2 * single;
     let end = table + rows * across;
-    let words = pairs(whole);
-    let to = write_rows(&words[codes..table], single, out, at);
-    write_rows(&words[table..end], across, out, to)
+    let pairs = words::pairs(whole);
+    let to = write_rows(&pairs[codes..table], single, out, at);
+    write_rows(&pairs[table..end], across, out, to)
 }
 
 // Writes the lines that the counts plan: the prologue, then the tables.

@@ -8,7 +8,7 @@ use native.Mathlib.Omega.{arith}
 use mathlib.Core.List.{List, [], ◌++◌}
 use Rattle.std.proofs.lemmas.List.{length-map}
 use Rattle.std.specs.Int.{w16, from_be_bytes}
-use Rattle.write_parts.specs.Laid.{pair_words}
+use Rattle.words.specs.Words.{pair_words}
 use mathlib.Core.Path.{◌≡◌}
 use Prim.Native.Nat.{ℕ, ◌+◌, ◌≤◌}
 use Rattle.write_parts.proofs.write_fields.Goals as goal

@@ -1,4 +1,5 @@
-use Rattle.write_parts.specs.Laid.{fields_of, pair_words}
+use Rattle.write_parts.specs.Laid.{fields_of}
+use Rattle.words.specs.Words.{pair_words}
 use Rattle.words.proofs.Writing.{Going}
 use lib.ListN.{drop}
 use Rattle.write_parts.proofs.write_fields.Given as goal

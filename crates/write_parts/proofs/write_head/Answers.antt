@@ -1,5 +1,6 @@
 use Rattle.write_parts.proofs.Turns.{head_turn, field_put, words_among}
-use Rattle.write_parts.specs.Laid.{fields_of, pair_words}
+use Rattle.write_parts.specs.Laid.{fields_of}
+use Rattle.words.specs.Words.{pair_words}
 use Rattle.field.proofs.Written.{length_field_of}
 use Rattle.field.specs.Writing.{field_of}
 use Rattle.words.proofs.Writing.{Going, start, fits, on, done}
@@ -47,9 +48,9 @@ write_field-requires-2 c = let a = c.args in let ws = words_of a.whole.now in le
 pub write_line-requires : goal.write_line-requires
 write_line-requires c = let a = c.args in let ws = words_of a.whole.now in let p = c.requires in
     let l = left-3 a.out.now a.at.0 a.lines a.kind a.fields.0 ws p.0 c.write_field.ensures c.write_field-2.ensures in
-    fits l _ [] (behind c.pairs.result.now a.fields.0 c.pairs.ensures) p.2
+    fits l _ [] (behind c.pairs.result.now a.fields.0 c.pairs.ensures.words) p.2
 
 pub returns : goal.returns
 returns c = let a = c.args in let ws = words_of a.whole.now in let p = c.requires in
     let l = left-3 a.out.now a.at.0 a.lines a.kind a.fields.0 ws p.0 c.write_field.ensures c.write_field-2.ensures in
-    done (on l _ [] (behind c.pairs.result.now a.fields.0 c.pairs.ensures) c.write_line.ensures) refl
+    done (on l _ [] (behind c.pairs.result.now a.fields.0 c.pairs.ensures.words) c.write_line.ensures) refl

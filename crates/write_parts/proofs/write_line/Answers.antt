@@ -1,4 +1,5 @@
-use Rattle.write_parts.specs.Laid.{fields_of, pair_words}
+use Rattle.write_parts.specs.Laid.{fields_of}
+use Rattle.words.specs.Words.{pair_words}
 use Rattle.words.proofs.Writing.{Going, start, fits, on, byte_put, done}
 use Rattle.words.specs.Writing.{Room, Put}
 use lib.ListN.{length}

@@ -4,7 +4,8 @@ use lib.ListN.{length}
 use Rattle.std.proofs.lemmas.List.{map-append, length-map}
 use Rattle.std.specs.Int.{w16, from_be_bytes}
 use Rattle.std.specs.Slice.Iter.{chunks_rest}
-use Rattle.write_parts.specs.Laid.{fields_of, part_text, pair_words}
+use Rattle.write_parts.specs.Laid.{fields_of, part_text}
+use Rattle.words.specs.Words.{pair_words}
 use Rattle.write_parts.proofs.Turns.{line_turn, no_part}
 use Rattle.words.proofs.Writing.{fits, on, done}
 use mathlib.Core.Path.{◌≡◌, ap, ◌∙◌}

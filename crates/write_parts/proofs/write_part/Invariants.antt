@@ -1,6 +1,7 @@
 use Rattle.std.specs.Prelude.{◌≡◌}
 use Rattle.std.specs.Slice.Iter.{chunks_rest, chunks_size}
-use Rattle.write_parts.specs.Laid.{part_text, pair_words}
+use Rattle.write_parts.specs.Laid.{part_text}
+use Rattle.words.specs.Words.{pair_words}
 use Rattle.words.proofs.Writing.{Going}
 use Rattle.write_parts.proofs.write_part.Given as goal
 

@@ -1,5 +1,6 @@
 use Rattle.write_parts.proofs.Turns.{prologue_text, words_among}
-use Rattle.write_parts.specs.Laid.{fields_of, laid, ended, part_text, pair_words}
+use Rattle.write_parts.specs.Laid.{fields_of, laid, ended, part_text}
+use Rattle.words.specs.Words.{pair_words}
 use Rattle.line_plan.specs.Plan.{part}
 use Rattle.words.proofs.Writing.{first_fits, second_fits, both-put}
 use Rattle.words.specs.Words.{words_of}
@@ -29,10 +30,10 @@ write_head-to-requires c = let a = c.args in
 pub write_part-requires : goal.write_part-requires
 write_part-requires c = let a = c.args in
     let p = c.requires in
-    second_fits _ _ _ _ (pieces a.lines c.on_line-first.result.0 (words_of a.whole.now) a.lprol.0 c.pairs.result.now c.shown-kind.ensures p.0 p.1 c.on_line-first.ensures c.pairs.ensures) p.2 c.write_head-to.ensures
+    second_fits _ _ _ _ (pieces a.lines c.on_line-first.result.0 (words_of a.whole.now) a.lprol.0 c.pairs.result.now c.shown-kind.ensures p.0 p.1 c.on_line-first.ensures c.pairs.ensures.words) p.2 c.write_head-to.ensures
 
 pub returns : goal.returns
 returns c = let a = c.args in
     let p = c.requires in
-    both-put _ _ _ _ (pieces a.lines c.on_line-first.result.0 (words_of a.whole.now) a.lprol.0 c.pairs.result.now c.shown-kind.ensures p.0 p.1 c.on_line-first.ensures c.pairs.ensures) p.2 c.write_head-to.ensures
+    both-put _ _ _ _ (pieces a.lines c.on_line-first.result.0 (words_of a.whole.now) a.lprol.0 c.pairs.result.now c.shown-kind.ensures p.0 p.1 c.on_line-first.ensures c.pairs.ensures.words) p.2 c.write_head-to.ensures
     c.write_part.ensures

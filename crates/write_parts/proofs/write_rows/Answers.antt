@@ -7,7 +7,8 @@ use Rattle.std.proofs.lemmas.List.{map-append, length-map}
 use Rattle.std.specs.Int.{w16, from_be_bytes}
 use Rattle.std.specs.Slice.Iter.{chunks_exact_rest, chunks_exact_size}
 use Rattle.line_plan.specs.Plan.{part, times}
-use Rattle.write_parts.specs.Laid.{laid, ended, part_text, pair_words}
+use Rattle.write_parts.specs.Laid.{laid, ended, part_text}
+use Rattle.words.specs.Words.{pair_words}
 use Rattle.write_parts.proofs.Turns.{row_turn, row_whole, no_rows, no_width}
 use Rattle.words.proofs.Writing.{start, fits, on, done}
 use Rattle.write_parts.proofs.write_rows.Goals as goal

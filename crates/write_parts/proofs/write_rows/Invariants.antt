@@ -1,6 +1,7 @@
 use Rattle.std.specs.Prelude.{ℕ, ◌≡◌, ◌*◌, List, length}
 use Rattle.std.specs.Slice.Iter.{chunks_exact_rest, chunks_exact_size}
-use Rattle.write_parts.specs.Laid.{laid, ended, pair_words}
+use Rattle.write_parts.specs.Laid.{laid, ended}
+use Rattle.words.specs.Words.{pair_words}
 use Rattle.line_plan.specs.Plan.{part, times}
 use Rattle.words.proofs.Writing.{Going}
 use Rattle.write_parts.proofs.write_rows.Given as goal

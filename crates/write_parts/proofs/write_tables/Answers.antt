@@ -1,5 +1,6 @@
 use Rattle.write_parts.proofs.Turns.{tables-text, words_among, rows_sized, rows_text}
-use Rattle.write_parts.specs.Laid.{laid, ended, pair_words}
+use Rattle.write_parts.specs.Laid.{laid, ended}
+use Rattle.words.specs.Words.{pair_words}
 use Rattle.line_plan.specs.Plan.{part, times, tables}
 use Rattle.words.proofs.Writing.{first_fits, second_fits, both-put}
 use Rattle.words.specs.Words.{words_of}
@@ -56,16 +57,16 @@ module _ (ws : List ℕ) (c : Counts) (h : words_needed c ≤ length ws) (ps : L
 -- the 1-D parts, and the 2-D rows
 pub write_rows-to-requires : goal.write_rows-to-requires
 write_rows-to-requires c = let a = c.args in
-    let ps = c.pairs-words.result.now in
+    let ps = c.pairs-pairs.result.now in
     let ws = words_of a.whole.now in
-    (singles-told ws a.c c.requires.0 ps c.pairs-words.ensures, first_fits a.out.now _ _ _ (pieces ws a.c c.requires.0 ps c.pairs-words.ensures) c.requires.1)
+    (singles-told ws a.c c.requires.0 ps c.pairs-pairs.ensures.words, first_fits a.out.now _ _ _ (pieces ws a.c c.requires.0 ps c.pairs-pairs.ensures.words) c.requires.1)
 
 pub write_rows-requires : goal.write_rows-requires
 write_rows-requires c = let a = c.args in
-    let ps = c.pairs-words.result.now in
+    let ps = c.pairs-pairs.result.now in
     let ws = words_of a.whole.now in
-    (rows-told ws a.c c.requires.0 ps c.pairs-words.ensures, second_fits _ _ _ _ (pieces ws a.c c.requires.0 ps c.pairs-words.ensures) c.requires.1 c.write_rows-to.ensures)
+    (rows-told ws a.c c.requires.0 ps c.pairs-pairs.ensures.words, second_fits _ _ _ _ (pieces ws a.c c.requires.0 ps c.pairs-pairs.ensures.words) c.requires.1 c.write_rows-to.ensures)
 
 pub returns : goal.returns
 returns c = let a = c.args in
-    both-put _ _ _ _ (pieces (words_of a.whole.now) a.c c.requires.0 c.pairs-words.result.now c.pairs-words.ensures) c.requires.1 c.write_rows-to.ensures c.write_rows.ensures
+    both-put _ _ _ _ (pieces (words_of a.whole.now) a.c c.requires.0 c.pairs-pairs.result.now c.pairs-pairs.ensures.words) c.requires.1 c.write_rows-to.ensures c.write_rows.ensures
