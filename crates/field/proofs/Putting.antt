@@ -29,12 +29,12 @@ plain {w} h =
     let e : 6 - length (decimal 5 w) ≡ suc (5 - length (decimal 5 w)) = omega (arith, length-decimal 5 w) in
     simp (lt-ltb w 32768 h) (rw (e, blank_more))
 
-pub with_minus : {w : ℕ} → w < 2 ^ 16 → 32768 ≤ w → six_of 45 (65535 - w + 1) ≡ field_of w
+pub with_minus : (w m : ℕ) → 32768 ≤ w → m + w ≡ 2 ^ 16 → six_of 45 m ≡ field_of w
 unfolding six_of field_of
-with_minus {w} fits h =
-    let e : 65536 - w ≡ 65535 - w + 1 = omega arith in
-    let f : 5 - length (decimal 5 (65535 - w + 1)) ≡ 6 - suc (length (decimal 5 (65535 - w + 1))) = omega arith in
-    simp (le-ltb w 32768 h) (rw (e, f))
+with_minus w m h e =
+    let f : 65536 - w ≡ m = omega arith in
+    let g : 5 - length (decimal 5 m) ≡ 6 - suc (length (decimal 5 m)) = omega arith in
+    simp (le-ltb w 32768 h) (rw (f, g))
 
 -- ---- a number's bytes
 

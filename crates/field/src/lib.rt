@@ -37,11 +37,12 @@ fn split(w: u16) -> Shown
     }
     Shown {
         lead: b'-',
-        number: 65535 - w + 1,
+        number: w.wrapping_neg(),
     }
 }
 
 // The last digit of a number.
+// Kept: digits by hand, here and in the two functions below: four are made at once by one product, since the compiler copies a table of digits to the stack at each use (docs/DECISIONS.md).
 fn digit(n: u16) -> u8
     ensures { result ≡ digit n }
 {
@@ -74,7 +75,7 @@ fn few(lead: u8, n: u16) -> u32
     four_digits(n) - 48 + u32::from(lead)
 }
 
-// Kept: with the six columns as a slice, or one copy of a whole field, writing took a third more instructions; as a `&mut [u8; 6]` the proof did not close: what is written through it is lost.
+// Kept: `out` and `at` are two parameters: with the six columns as a slice, or one copy of a whole field, writing took a third more instructions; as a `&mut [u8; 6]` the proof did not close: what is written through it is lost.
 fn put_six(out: &mut [u8], at: usize, columns: [u8; 6])
     requires { at + 6 ≤ length out.old }
     ensures { out.new ≡ sets out.old at columns }
@@ -83,7 +84,7 @@ fn put_six(out: &mut [u8], at: usize, columns: [u8; 6])
     out[at..end].copy_from_slice(&columns);
 }
 
-// The first two columns, and a number whose bytes are the other four. A function of its own, so that the compiler makes one store of the four.
+// The first two columns, and a number whose bytes are the other four.
 fn put_columns(out: &mut [u8], at: usize, a: u8, b: u8, x: u32)
     requires { at + 6 ≤ length out.old }
     ensures { out.new ≡ sets out.old at (a ∷ b ∷ four_bytes x) }
@@ -98,10 +99,10 @@ fn put_few(out: &mut [u8], at: usize, lead: u8, n: u16)
     ensures { out.new ≡ sets out.old at (six_of lead n) }
 {
     if n < 10 {
-        put_six(out, at, [32, 32, 32, 32, lead, digit(n)]);
+        put_six(out, at, [b' ', b' ', b' ', b' ', lead, digit(n)]);
         return;
     }
-    put_columns(out, at, 32, 32, few(lead, n));
+    put_columns(out, at, b' ', b' ', few(lead, n));
 }
 
 // Writes a word into the six columns from place `at` on; all other bytes stay.
@@ -118,7 +119,7 @@ pub fn write_field(out: &mut [u8], at: Bytes, w: u16)
         return;
     }
     if n < 10000 {
-        put_columns(out, first, 32, lead, four_digits(n));
+        put_columns(out, first, b' ', lead, four_digits(n));
         return;
     }
     put_columns(out, first, lead, digit(n / 10000), four_digits(n));
@@ -183,7 +184,7 @@ fn finish(s: Scan) -> Option<u16>
     }
 }
 
-// Reads the six columns from place `at` on of a line; columns that it lacks are blank. A bad field has no word, as one has none whose last column is blank.
+// Reads the six columns from place `at` on of a line; columns that it lacks are blank. Where the line ends before the sixth column, that column is blank, and the field is bad.
 pub fn read_field(line: &[u8], at: Bytes) -> Option<u16>
     ensures { result ≡ read_field (columns 6 line.now at.0) }
 {
