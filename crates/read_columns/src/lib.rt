@@ -56,6 +56,7 @@ fn at_column(n: u8, line: Lines, column: Bytes) -> Answer
 }
 
 // A line of a text: its number, counted from 1, and its bytes without its end.
+// Kept: clauses take its number and its bytes apart, as the definitions of specs/Columns.antt do, whose parameters may not change.
 #[derive(Clone, Copy)]
 pub struct Line<'a> {
     pub num: Lines,
@@ -63,6 +64,7 @@ pub struct Line<'a> {
 }
 
 // The first column of the field with k fields before it.
+// Kept: that there are at most 20 fields before it is asked by each function here, and by no type: the public `column_of` asks it by `requires`.
 pub fn column_of(k: Words) -> Bytes
     requires { k.0 ≤ 20 }
     ensures { result.0 ≡ column_of k.0 }
@@ -97,6 +99,7 @@ impl<'a> Line<'a> {
     }
 
     // The columns after the first `from` must be blank.
+    // Kept: the test of `read_line::read_line` once more, for another refusal: one method for both would be handed a function that makes the refusal, and is longer than the test.
     #[tactic(auto, unfolding(crate::specs::Columns::blank_after, crate::specs::Columns::right_to))]
     pub fn blank_after(self, from: Bytes) -> Result<(), Flaw>
         ensures { tested_of tt result ≡ blank_after self.entry.num.0 self.entry.text.now from.0 }
@@ -128,6 +131,7 @@ impl<'a> Line<'a> {
     }
 
     // Reads `count` number fields, with `from` fields before them, into the same places of the row.
+    // Kept: the row is lent and not given back, since this public method's clause tells its numbers on a refusal too.
     pub fn read_numbers(self, from: Words, count: Words, row: &mut [u16; 20]) -> Result<(), Flaw>
         requires { from.0 + count.0 ≤ 20 }
         ensures { tested_of (take (from.0 + count.0) row.new) result ≡ onward (field_numbers self.entry.num.0 self.entry.text.now from.0 count.0) (λ ws. passed (take from.0 row.old ++ ws)) }

@@ -75,6 +75,7 @@ fn plain_end(text: &[u8], at: usize) -> usize
 }
 
 // The bytes of the line end that a text begins with: 0 where there is none.
+// Kept: 0 says none, as the definition `end_length` of specs/Lines.antt does.
 #[tactic(auto, unfolding(crate::specs::Lines::end_length))]
 fn end_length(text: &[u8]) -> usize
     ensures { (result ≡ end_length text.now) × (result ≤ length text.now) }
@@ -87,6 +88,7 @@ fn end_length(text: &[u8]) -> usize
 }
 
 // The line that begins at place `at`: its plain bytes end no line, so that its end is looked for behind them. Mostly an LF stands there.
+// Kept: a text and a place, as this public function's clause `CutAt` has them. The loop is no search, which would give the place alone: the size of the line end is told with it.
 pub fn next_line(text: &[u8], at: Bytes) -> Cut
     requires { at.0 < length text.now }
     ensures { CutAt text.now at.0 result }

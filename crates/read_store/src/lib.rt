@@ -10,6 +10,7 @@ ghost use Rattle.words.specs.Words.{bytes_of};
 use units::{Bytes, Words};
 
 // Stores bytes from place `at` on.
+// Kept: `out` and `at` are two parameters, here and below, as these public functions' clauses have them: the place may lie past the end of `out`, which a part of it may not.
 // Kept: a call of its own for all of them, since with one call, of as many as there is room for, writing cards took a fifth more instructions.
 pub fn store_bytes(bytes: &[u8], out: &mut [u8], at: Bytes)
     ensures { out.new ≡ sets out.old at.0 bytes.now }
@@ -56,6 +57,8 @@ pub fn store_word(w: u16, out: &mut [u8], at: Words)
 }
 
 // Stores the words of a row after `from` up to `upto`, after `at` words.
+// Kept: by index, since this public function's clause asks no order of `from` and `upto`: a part of the row from the one to the other is none where it is turned round.
+// Kept: a buffer of no bytes takes nothing, so that one loop of reading judges and writes, as the definition `stored` of read_records does.
 pub fn store_words(row: &[u16], from: Words, upto: Words, out: &mut [u8], at: Words)
     requires { (upto.0 ≤ length row.now) × (upto.0 ≤ 40) × (at.0 < 2 ^ 24) }
     ensures { out.new ≡ sets out.old (bytes_of_words at.0) (bytes_of (slice from.0 upto.0 row.now)) }
