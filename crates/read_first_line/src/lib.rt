@@ -23,6 +23,7 @@ pub struct Parts {
 }
 
 // What is to come of a record: cards; or fields of the present part, then the 1-D parts, and the 2-D parts, codes and rows.
+// Kept: counts, and no enum of cards or fields: `to_come`, over which the public `cards_only` and `settled` promise, adds up all of them.
 #[derive(Clone, Copy)]
 pub struct Rest {
     pub cards: Lines,
@@ -32,7 +33,7 @@ pub struct Rest {
 }
 
 // Between two lines: what is to come, and the record words so far.
-// Kept: that `held` leaves its count in range is what `first_line` and `read_line` require, and no invariant of the type.
+// Kept: that `held` leaves its count in range (`Lent`) may not become an invariant: the public `first_line` and `read_line` ask it by `requires`, and `read_line` may give back more words held, of a record that has no room.
 #[derive(Clone, Copy)]
 pub struct Next {
     pub rest: Rest,
@@ -151,9 +152,10 @@ fn first_fields(line: Line, row: &mut [u16; 20]) -> Result<Kind, Flaw>
 }
 
 // Puts a record's first words: LTOT, its kind, and the fields of its first line from field 3 on.
-// Kept: `held` and `block` are two parameters, here and in `read_line`: a struct that holds the lent output was tried in report, and each contract must then say besides that it is still the same block.
+// Kept: `held`, `line`, `row` and `block` are parameters, here and in `read_line`, as the public `first_line` has them; a struct of lent slices is no plainer, since each contract must then say besides that it is still the same slice, as report found.
+// Kept: that `total` fits a word is asked beside it: the public functions of units take and give `Words` of any count, and may not ask an invariant of it.
 fn put_head(total: Words, kind: Kind, row: &[u16], block: &mut [u8], held: Words)
-    requires { (total.0 < 65536) × (length row.now ≤ 20) × (held.0 ≤ most_record_words) }
+    requires { (total.0 < 65536) × (length row.now ≤ 20) × Lent held.0 }
     ensures { block.new ≡ put held.0 block.old (total.0 ∷ (kind_word kind ∷ drop 2 row.now)) }
 {
     let first = held.0 + 1;
@@ -181,7 +183,7 @@ fn put_cards_head(total: Words, kind: Kind, row: &[u16], block: &mut [u8], held:
 // A Catalogue's or a Header's stated line count may stand, and there is room for that many.
 #[tactic(auto, unfolding(crate::specs::FirstLine::cards_room))]
 fn cards_room(num: Lines, held: Words, stated: u16) -> Result<(), Flaw>
-    requires { held.0 ≤ most_record_words }
+    requires { Lent held.0 }
     ensures { tested_of tt result ≡ cards_room num.0 held.0 stated }
 {
     if !(1..=199).contains(&stated) {
@@ -228,7 +230,7 @@ fn cards_line(
 // There is room for a Data record with these counts, and its stated line count is what they need.
 #[tactic(auto, unfolding(crate::specs::FirstLine::data_room))]
 fn data_room(num: Lines, held: Words, lines: u16, c: Counts) -> Result<(), Flaw>
-    requires { held.0 ≤ most_record_words }
+    requires { Lent held.0 }
     ensures { tested_of tt result ≡ data_room num.0 held.0 lines c }
 {
     let all = held.0 + counts::words_needed(c).0;
