@@ -2,7 +2,7 @@
 #![tactic(auto)]
 
 ghost use Rattle.std.specs.Prelude.{◌≡◌, [], ◌∷◌, ◌++◌, ◌≤◌, ◌<◌, min, length, take, MatchOption};
-ghost use Rattle.words.specs.Words.{words_of, most_record_words};
+ghost use Rattle.words.specs.Words.{words_of};
 ghost use Rattle.words.specs.Scans.{plain_in};
 ghost use Rattle.line_plan.specs.Plan.{part};
 ghost use Rattle.field.specs.Reading.{columns};
@@ -57,7 +57,7 @@ pub fn settled(p: Rest) -> Rest
 // Puts the 80 columns of a card: those that the line lacks are blank.
 // Kept: one copy of `text.len().min(80)` bytes, with or without the test, took a tenth more instructions to write a text of cards.
 fn put_card(text: &[u8], held: Words, block: &mut [u8])
-    requires { held.0 ≤ most_record_words }
+    requires { Lent held.0 }
     ensures { block.new ≡ put held.0 block.old (words_of (columns 80 text.now 0)) }
 {
     let first = held.0 + 1;
@@ -165,7 +165,8 @@ fn by_rest(at: Next, line: Line, row: &mut [u16; 20], block: &mut [u8]) -> Resul
 }
 
 // Any line, which begins with `plain` plain bytes.
-// Kept: `plain` is a parameter and no field of `Line`: that it counts the line's plain bytes is what this and `plain_to` require, and no invariant of the type.
+// Kept: `plain` is a parameter and no field of `Line`: that it counts the line's plain bytes may not become an invariant: the public `read_line` and `plain_to` ask it by `requires`.
+// Kept: the test of `Line::blank_after` once more, for another refusal: one method for both would be handed a function that makes the refusal, and is longer than the test.
 #[tactic(auto, unfolding(crate::specs::Lines::read_line, read_columns::specs::Columns::plain_line, read_columns::specs::Columns::right_to))]
 pub fn read_line(
     at: Next,
