@@ -15,10 +15,7 @@ fn at_end(next: Next, num: Lines) -> Result<Words, Flaw>
     ensures { Ended num.0 next.held.0 (to_come next.rest) result }
 {
     let p = read_line::settled(next.rest);
-    if 0 < p.cards.0 {
-        return Err(Flaw::Ends(num));
-    }
-    if 0 < p.left.0 {
+    if 0 < p.cards.0 || 0 < p.left.0 {
         return Err(Flaw::Ends(num));
     }
     let held = next.held;
@@ -50,6 +47,7 @@ pub fn read(text: &[u8], block: &mut [u8]) -> Result<Words, Flaw>
             text: &left[..cut.end.0],
         };
         next = read_line::read_line(next, line, cut.plain, &mut row, block)?;
+        // Kept: `num` is no index: it counts the lines beside a rest that shrinks, and no iterator lends them.
         num += 1;
         left = left.split_at(cut.next.0).1;
     }
