@@ -1,11 +1,13 @@
 // Lines to block, in two calls: one judges the lines and tells the size of their block, one judges them again and writes it.
 #![tactic(auto)]
 
-ghost use Rattle.std.specs.Prelude.{◌≡◌, ◌+◌, ◌≤◌, ◌<◌, ◌^◌};
+ghost use Rattle.std.specs.Prelude.{◌≡◌, ◌+◌, ◌≤◌, ◌<◌, ◌^◌, []};
 ghost use Rattle.units.specs.Answers.{passed, answered, fitted};
 ghost use Rattle.units.specs.Units.{bytes_of_words};
 ghost use Rattle.words.specs.Words.{most_record_words};
 ghost use Rattle.words.specs.Outcomes.{leaves};
+ghost use Rattle.read_records.specs.Content.{stored, stored_of};
+ghost use Rattle.read_records.specs.Reading.{read_text};
 ghost use Rattle.read_text.specs.Block.{judge_lines, write_block};
 ghost use Rattle.read_text.specs.Cases.{judged_of, built_of};
 ghost use Rattle.read_text.specs.Promises.{JudgesLines, WritesBlock};
@@ -21,12 +23,19 @@ fn block_size(records: Words) -> Bytes
     units::bytes_of_words(Words(records.0 + 2))
 }
 
-// Judges a text: reads it into a block of no bytes, so that nothing is written.
+// Reads a text into a block of no bytes, so that nothing is written.
+fn judge_records(text: &[u8]) -> Result<Words, Flaw>
+    ensures { stored_of [] result ≡ stored 0 [] (read_text text.now) }
+{
+    let mut nothing = [0u8; 0];
+    read_records::read(text, &mut nothing)
+}
+
+// Judges a text, and tells the size of its block.
 pub fn judge_lines(text: &[u8]) -> Result<Bytes, Flaw>
     ensures { JudgesLines text.now result }
 {
-    let mut nothing = [0u8; 0];
-    let records = read_records::read(text, &mut nothing)?;
+    let records = judge_records(text)?;
     let size = block_size(records);
     Ok(size)
 }
@@ -41,6 +50,7 @@ fn put_block(text: &[u8], records: Words, block: &mut [u8]) -> Result<Bytes, Unw
     if block.len() < size {
         return Err(Unwritten::Short(needed));
     }
+    // Judged before, the text is not refused now: what is found of it is the same.
     let _ = read_records::read(text, block);
     words::seal(block, records);
     Ok(needed)
@@ -50,8 +60,7 @@ fn put_block(text: &[u8], records: Words, block: &mut [u8]) -> Result<Bytes, Unw
 pub fn write_block(text: &[u8], block: &mut [u8]) -> Result<Bytes, Unwritten<Flaw>>
     ensures { WritesBlock text.now block.old result block.new }
 {
-    let mut nothing = [0u8; 0];
-    let judged = read_records::read(text, &mut nothing)?;
+    let judged = judge_records(text)?;
     put_block(text, judged, block)
 }
 
