@@ -65,6 +65,7 @@ pub fn write_block(text: &[u8], block: &mut [u8]) -> Result<Bytes, Unwritten<Fla
 }
 
 // The four numbers of what is found of a text.
+// Kept: one line, as its neighbour below: the name is public (docs/PROMISES.md).
 pub fn judged_numbers(j: Result<Bytes, Flaw>) -> Answer
     ensures { (result ≡ fitted (answered (judged_of j))) × (result.a < 2 ^ 24) }
 {
