@@ -83,6 +83,7 @@ pub fn write_cards(whole: &[u8], from: Words, cards: Lines, out: &mut [u8], at: 
 }
 
 // Writes a record's first line: its line count and its kind, then words 3 on, `fields` fields in all.
+// Kept: the kind is a number, as the contract of this public function has it for each.
 pub fn write_head(
     whole: &[u8],
     lines: u16,
@@ -118,6 +119,7 @@ fn write_tables(whole: &[u8], c: Counts, out: &mut [u8], at: Bytes) -> Bytes
     requires { (words_needed c ≤ length (words_of whole.now)) × Room out.old at.0 (ended (laid (tables c) (drop c.lprol (words_of whole.now)))) }
     ensures { Put out.old at.0 (ended (laid (tables c) (drop c.lprol (words_of whole.now)))) out.new result.0 }
 {
+    // Kept: widened by `as`, which computes: with `usize::from`, tried, each answer must also be rewritten by four facts.
     let codes = c.lprol as usize;
     let single = c.jpar as usize;
     let across = c.mpar as usize;
