@@ -23,12 +23,16 @@ impl Kind {
     }
 
     // The kind that word 2 of a record says.
+    // Kept: a match, here and in `of_shown`: `find` over the three kinds by `word` was tried; it proves, but judging 499 records took 59,463 instructions for 32,512.
     pub fn of_word(word: u16) -> Option<Kind>
         ensures { SaysKind kind_word word result }
     {
-        [Kind::Catalogue, Kind::Header, Kind::Data]
-            .into_iter()
-            .find(|kind| kind.word() == word)
+        match word {
+            2001 => Some(Kind::Catalogue),
+            3002 => Some(Kind::Header),
+            1002 => Some(Kind::Data),
+            _ => None,
+        }
     }
 
     // The number that the lines of a record of this kind show.
@@ -46,8 +50,11 @@ impl Kind {
     pub fn of_shown(number: u16) -> Option<Kind>
         ensures { SaysKind kind_number number result }
     {
-        [Kind::Catalogue, Kind::Header, Kind::Data]
-            .into_iter()
-            .find(|kind| kind.shown() == number)
+        match number {
+            2101 => Some(Kind::Catalogue),
+            3101 => Some(Kind::Header),
+            1101 => Some(Kind::Data),
+            _ => None,
+        }
     }
 }
