@@ -131,7 +131,7 @@ impl<'a> Line<'a> {
     }
 
     // Reads `count` number fields, with `from` fields before them, into the same places of the row.
-    // Kept: the row is lent and not given back, since this public method's clause tells its numbers on a refusal too.
+    // Kept: the row is lent and not given back: this public method's clause is over the row before and after, whose numbers before `from` stay.
     pub fn read_numbers(self, from: Words, count: Words, row: &mut [u16; 20]) -> Result<(), Flaw>
         requires { from.0 + count.0 ≤ 20 }
         ensures { tested_of (take (from.0 + count.0) row.new) result ≡ onward (field_numbers self.entry.num.0 self.entry.text.now from.0 count.0) (λ ws. passed (take from.0 row.old ++ ws)) }

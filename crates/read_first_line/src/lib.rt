@@ -168,6 +168,7 @@ fn put_head(total: Words, kind: Kind, row: &[u16], block: &mut [u8], held: Words
 }
 
 // Puts the 40 words of a Catalogue's or a Header's first line: what its fields do not give is zero.
+// Kept: `LentCards`, and `LentData` below, are asked of the fields that count, a part of the row: 12, 15 or LPROL of them, so that no array type says it.
 fn put_cards_head(total: Words, kind: Kind, row: &[u16], block: &mut [u8], held: Words)
     requires { (total.0 < 65536) × LentCards row.now held.0 }
     ensures { block.new ≡ put held.0 block.old (total.0 ∷ (kind_word kind ∷ drop 2 row.now) ++ replicate (40 - length row.now) 0) }
