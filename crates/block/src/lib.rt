@@ -51,6 +51,7 @@ impl Numbered for Refusal {
 fn wrong_size(size: Bytes) -> bool
     ensures { result ≡ wrong_size size.0 }
 {
+    // Kept: three tests, as the sentence has them: a range would be negated for two of them, and is no plainer.
     size.0 % 2 != 0 || size.0 < 36 || 16000 < size.0
 }
 
@@ -64,6 +65,7 @@ fn judge_records(inner: &[u8]) -> Result<u16, Refusal>
     while words::count(rest).0 > 0 {
         let size = record::judge_record(rest, number)?;
         rest = rest.split_at(units::bytes_of_words(size).0).1;
+        // Kept: `number` is no index: it counts the records beside a rest that shrinks, and no iterator lends records not yet judged.
         number += 1;
     }
     Ok(number - 1)

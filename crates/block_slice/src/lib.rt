@@ -59,6 +59,7 @@ fn wrong_first(stated: Words) -> bool
 }
 
 // Judges block `number` by the words that it states.
+// Kept: `rest` and `number` are two parameters, as the public `judge_next` has them.
 #[tactic(auto, unfolding(crate::specs::Blocks::judge_stated))]
 fn judge_stated(rest: &[u8], number: u16, stated: Words) -> Result<Bytes, SliceRefusal>
     requires { stated.0 < 65536 }

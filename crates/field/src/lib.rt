@@ -42,7 +42,7 @@ fn split(w: u16) -> Shown
 }
 
 // The last digit of a number.
-// Kept: digits by hand, here and in the two functions below: four are made at once by one product, since the compiler copies a table of digits to the stack at each use (docs/DECISIONS.md).
+// Kept: digits by hand, here and in the two functions below: the library prints by Display, which promises none of its bytes (as told in report); four are made at once by one product.
 fn digit(n: u16) -> u8
     ensures { result ≡ digit n }
 {

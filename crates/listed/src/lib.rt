@@ -18,6 +18,7 @@ use units::{Bytes, Numbered, Words};
 pub const LISTING_BYTES: usize = 32768;
 
 // Puts the number that a word stands for in two's complement.
+// Kept: the sign is taken off here and in `field::split`: they share one test, and what follows it, a lead for a column or a text, differs.
 // Kept: `out` and `at` are two parameters, here and below: a struct of the two was tried in `report`: it proves, no clause or proof gets shorter, and each caller makes the struct and takes its place out again.
 fn write_signed(w: u16, out: &mut [u8], at: Bytes) -> Bytes
     requires { Room out.old at.0 (signed_of w) }
@@ -44,6 +45,7 @@ fn write_instrument(w: u16, out: &mut [u8], at: Bytes) -> Bytes
 }
 
 // Puts the line of a good record up to its count of lines.
+// Kept: `Accepted` and `BlockRecord`, here and below, are asked of bytes, for the reasons that write_lines tells.
 fn write_front(number: u32, before: Words, whole: &[u8], out: &mut [u8], at: Bytes) -> Bytes
     requires { (before.0 < most_words) × BlockRecord (words_of whole.now) × Room out.old at.0 (front_of number before.0 (words_of whole.now)) }
     ensures { Put out.old at.0 (front_of number before.0 (words_of whole.now)) out.new result.0 }

@@ -88,7 +88,7 @@ fn end_length(text: &[u8]) -> usize
 }
 
 // The line that begins at place `at`: its plain bytes end no line, so that its end is looked for behind them. Mostly an LF stands there.
-// Kept: a text and a place, as this public function's clause `CutAt` has them. The loop is no search, which would give the place alone: the size of the line end is told with it.
+// Kept: a text and a place, as this public function's clause `CutAt` has them. The loop is no search: `find_map` would give the whole `Cut` from a closure, and is no plainer.
 pub fn next_line(text: &[u8], at: Bytes) -> Cut
     requires { at.0 < length text.now }
     ensures { CutAt text.now at.0 result }

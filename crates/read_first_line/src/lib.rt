@@ -23,7 +23,7 @@ pub struct Parts {
 }
 
 // What is to come of a record: cards; or fields of the present part, then the 1-D parts, and the 2-D parts, codes and rows.
-// Kept: counts, and no enum of cards or fields: `to_come`, over which the public `cards_only` and `settled` promise, adds up all of them.
+// Kept: counts, and no enum of cards or fields: nothing to come would have two forms, no cards and no fields, and `settled`, `by_rest` and `at_end` would still test the counts within each case.
 #[derive(Clone, Copy)]
 pub struct Rest {
     pub cards: Lines,
@@ -152,7 +152,7 @@ fn first_fields(line: Line, row: &mut [u16; 20]) -> Result<Kind, Flaw>
 }
 
 // Puts a record's first words: LTOT, its kind, and the fields of its first line from field 3 on.
-// Kept: `held`, `line`, `row` and `block` are parameters, here and in `read_line`, as the public `first_line` has them; a struct of lent slices is no plainer, since each contract must then say besides that it is still the same slice, as report found.
+// Kept: `held`, `line`, `row` and `block` are parameters, here and in `read_line`, as the public `first_line` has them; a struct of lent slices is no plainer: each caller would make it and take them out again, as was found with a struct in report.
 // Kept: that `total` fits a word is asked beside it: the public functions of units take and give `Words` of any count, and may not ask an invariant of it.
 fn put_head(total: Words, kind: Kind, row: &[u16], block: &mut [u8], held: Words)
     requires { (total.0 < 65536) × (length row.now ≤ 20) × Lent held.0 }
@@ -250,6 +250,7 @@ fn behind_first(used: usize, c: Counts) -> Rest
     requires { (used ≡ min c.lprol 20) × (0 < c.lprol) }
     ensures { to_come result ≡ map fields (drop 1 (plan c)) }
 {
+    // Kept: widened by `as`, as in `write_parts::write_tables`, where `usize::from` made each answer longer.
     let left = c.lprol as usize - used;
     let rows = c.nrow as usize + 1;
     Rest {

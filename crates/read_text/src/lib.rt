@@ -40,6 +40,7 @@ pub fn judge_lines(text: &[u8]) -> Result<Bytes, Flaw>
     Ok(size)
 }
 
+// Kept: `text` and `block` are two parameters, here, in read_records and in read_line: the call for C lends them so (`cedar_write_block` of include/cedar.h).
 // Puts the block of an accepted text that has `records` record words, if the lent block has room for it.
 fn put_block(text: &[u8], records: Words, block: &mut [u8]) -> Result<Bytes, Unwritten<Flaw>>
     requires { judge_lines text.now ≡ passed (bytes_of_words (records.0 + 2)) }

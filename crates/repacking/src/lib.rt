@@ -49,13 +49,14 @@ fn judge_blocks(slice: &[u8]) -> Result<Bytes, SliceRefusal>
         let (block, others) = rest.split_at(size.0);
         current = count_records(block, current);
         rest = others;
+        // Kept: `number` is no index: it counts the blocks beside a rest that shrinks, and no iterator lends them (below).
         number += 1;
     }
     Ok(current.bytes_to())
 }
 
 // Seals the current block where it stands in the output.
-// Kept: `out` and the current block are two parameters: a struct of the output and the place in it was tried in report. It proves, but no clause and no proof is shorter, and each caller makes it and takes its place out again.
+// Kept: `out` and the current block are two parameters: a struct of an output and a place, tried in report, made no clause and no proof shorter, and this one would be made and taken apart by each caller alike.
 #[tactic(auto, unfolding(packing::specs::Current::current_after))]
 fn seal_current(out: &mut [u8], current: Current)
     requires { Fitting out.old current [] }

@@ -95,10 +95,9 @@ pub fn write_head(
     requires { (2 ≤ fields.0) × (fields.0 ≤ length (words_of whole.now)) × Room out.old at.0 (fields_of (take fields.0 (lines ∷ (kind ∷ drop 2 (words_of whole.now)))) ++ (10 ∷ [])) }
     ensures { Put out.old at.0 (fields_of (take fields.0 (lines ∷ (kind ∷ drop 2 (words_of whole.now)))) ++ (10 ∷ [])) out.new result.0 }
 {
-    let first = at.0;
-    let second = first + 6;
+    let second = at.0 + 6;
     let third = second + 6;
-    field::write_field(out, Bytes(first), lines);
+    field::write_field(out, at, lines);
     field::write_field(out, Bytes(second), kind);
     write_line(&words::pairs(whole)[2..fields.0], out, Bytes(third))
 }
@@ -119,7 +118,7 @@ fn write_tables(whole: &[u8], c: Counts, out: &mut [u8], at: Bytes) -> Bytes
     requires { (words_needed c ≤ length (words_of whole.now)) × Room out.old at.0 (ended (laid (tables c) (drop c.lprol (words_of whole.now)))) }
     ensures { Put out.old at.0 (ended (laid (tables c) (drop c.lprol (words_of whole.now)))) out.new result.0 }
 {
-    // Kept: widened by `as`, which computes: with `usize::from`, tried, each answer must also be rewritten by four facts.
+    // Kept: widened by `as`, which computes: `usize::from` was tried and is no plainer: each answer must also be rewritten by four facts.
     let codes = c.lprol as usize;
     let single = c.jpar as usize;
     let across = c.mpar as usize;
