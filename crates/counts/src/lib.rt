@@ -57,7 +57,6 @@ pub fn words_needed(c: Counts) -> Words
 fn under(least: u16, w: u16) -> bool
     ensures { result ≡ under_least least w }
 {
-    // Kept: two tests, under the least or negative in two's complement: a range would say the second as its end, and is no plainer.
     w < least || 32768 <= w
 }
 

@@ -115,7 +115,6 @@ pub fn prefix_of(instrument: u16) -> Letters
             let [first, second, third] = TABLE[row].1;
             Letters(first, second, third)
         }
-        // Kept: dashes, not None: the promise `FindsPrefix` tells three letters for every instrument.
         None => Letters(b'-', b'-', b'-'),
     }
 }

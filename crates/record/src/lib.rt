@@ -64,7 +64,8 @@ fn passing_in(rest: &[u8], from: Words, upto: Words, least: u16, most: u16) -> W
     words::first_outside(words::span(rest, from, upto), least, most)
 }
 
-// Kept: `rest` and `number` are two parameters, here and below: a struct of them is no plainer, since each clause and each call would take both out again, and `judge_counts` takes the number alone.
+// Kept: `rest` and `number` are two parameters, here and below: a struct of them is no plainer, since each clause and each call would take both out of it
+// again (`words_of here.rest.now`, `words::word_at(here.rest, ..)`), while `judge_counts` takes the number alone and the public `judge_record` makes the struct.
 
 // The content of a Catalogue or a Header of `total` words: zeros from word `first` to 40, then cards.
 fn judge_content(rest: &[u8], number: u16, first: Words, total: Words) -> Result<Words, Fault>

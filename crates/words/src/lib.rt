@@ -87,7 +87,6 @@ pub fn first_outside(part: &[u8], least: u16, most: u16) -> Words
 }
 
 // Puts all of `text` at a place; all other bytes stay.
-// Kept: `Room` and `Put` stand in the contract of every writer, each of its own text, so no type says them once.
 // Kept: a loop and not `copy_from_slice`, which calls `memmove`: of the C library the archive may need `memset` alone (include/cedar.h).
 pub fn write_bytes(text: &[u8], out: &mut [u8], at: Bytes) -> Bytes
     requires { Room out.old at.0 text.now }
