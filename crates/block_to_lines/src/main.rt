@@ -4,10 +4,14 @@
 use std::io;
 use std::io::Print;
 
+fn put_lines(rt: &HostRuntime, block: &[u8]) -> io::Result<()> {
+    let mut text = [0u8; printed::TEXT_BYTES];
+    let end = printed::print_lines(block, &mut text).0;
+    rt.write_all(&text[..end])
+}
+
 fn main(rt: HostRuntime) -> io::Result<()> {
-    read_input::with_input::<16001, _>(&rt, |block| {
-        let mut text = [0u8; printed::TEXT_BYTES];
-        let end = printed::print_lines(block, &mut text).0;
-        rt.write_all(&text[..end])
-    })
+    let mut input = [0u8; 16001];
+    let n = read_input::read_full(&mut rt.reader(), &mut input)?;
+    put_lines(&rt, &input[..n])
 }

@@ -5,9 +5,9 @@ use std::io;
 use std::io::Print;
 
 fn main(rt: HostRuntime) -> io::Result<()> {
-    read_input::with_input::<65537, _>(&rt, |text| {
-        let mut line = [0u8; printed::SIZE_BYTES];
-        let end = printed::print_size(text, &mut line).0;
-        rt.write_all(&line[..end])
-    })
+    let mut input = [0u8; 65537];
+    let n = read_input::read_full(&mut rt.reader(), &mut input)?;
+    let mut line = [0u8; printed::SIZE_BYTES];
+    let end = printed::print_size(&input[..n], &mut line).0;
+    rt.write_all(&line[..end])
 }

@@ -4,7 +4,7 @@
 use std::io;
 use std::io::Print;
 
-// Kept: a function for each way, here and below: what prints takes an array of a size of its own (`read_input::with_input` says why the call is no parameter), and the block's array is made only where there is a block.
+// Kept: a function for each way, here and below: what prints takes an array of a size of its own (a bound on it would name its size, and no proof is made for such a bound yet), and the block's array is made only where there is a block.
 fn put_block(rt: &HostRuntime, text: &[u8]) -> io::Result<()> {
     let mut block = [0u8; printed::BLOCK_BYTES];
     let end = printed::print_block(text, &mut block).0;
@@ -18,8 +18,10 @@ fn put_refusal(rt: &HostRuntime, text: &[u8]) -> io::Result<()> {
 }
 
 fn main(rt: HostRuntime) -> io::Result<()> {
-    read_input::with_input::<65537, _>(&rt, |text| match read_text::judge_lines(text) {
-        Ok(_) => put_block(&rt, text),
-        Err(_) => put_refusal(&rt, text),
-    })
+    let mut input = [0u8; 65537];
+    let n = read_input::read_full(&mut rt.reader(), &mut input)?;
+    match read_text::judge_lines(&input[..n]) {
+        Ok(_) => put_block(&rt, &input[..n]),
+        Err(_) => put_refusal(&rt, &input[..n]),
+    }
 }

@@ -4,10 +4,14 @@
 use std::io;
 use std::io::Print;
 
+fn put_listing(rt: &HostRuntime, block: &[u8]) -> io::Result<()> {
+    let mut listing = [0u8; listed::LISTING_BYTES];
+    let end = listed::print_listing(block, &mut listing).0;
+    rt.write_all(&listing[..end])
+}
+
 fn main(rt: HostRuntime) -> io::Result<()> {
-    read_input::with_input::<16001, _>(&rt, |block| {
-        let mut listing = [0u8; listed::LISTING_BYTES];
-        let end = listed::print_listing(block, &mut listing).0;
-        rt.write_all(&listing[..end])
-    })
+    let mut input = [0u8; 16001];
+    let n = read_input::read_full(&mut rt.reader(), &mut input)?;
+    put_listing(&rt, &input[..n])
 }

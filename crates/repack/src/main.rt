@@ -4,10 +4,14 @@
 use std::io;
 use std::io::Print;
 
+fn put_blocks(rt: &HostRuntime, slice: &[u8]) -> io::Result<()> {
+    let mut packed = [0u8; printed::SLICE_BYTES];
+    let end = printed::print_blocks(slice, &mut packed).0;
+    rt.write_all(&packed[..end])
+}
+
 fn main(rt: HostRuntime) -> io::Result<()> {
-    read_input::with_input::<64001, _>(&rt, |slice| {
-        let mut packed = [0u8; printed::SLICE_BYTES];
-        let end = printed::print_blocks(slice, &mut packed).0;
-        rt.write_all(&packed[..end])
-    })
+    let mut input = [0u8; 64001];
+    let n = read_input::read_full(&mut rt.reader(), &mut input)?;
+    put_blocks(&rt, &input[..n])
 }
