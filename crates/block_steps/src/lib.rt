@@ -5,7 +5,7 @@ ghost use Rattle.std.specs.Prelude.{◌≡◌, ◌+◌, ◌^◌, ◌<◌, drop};
 ghost use Rattle.words.specs.Words.{words_of, bytes_of};
 ghost use Rattle.block_steps.specs.Steps.{record_at};
 ghost use Rattle.block_steps.specs.Promises.{StepsTo, FindsRecord};
-ghost use Rattle.block_steps.specs.Standing.{records_from, records_left, Lends};
+ghost use Rattle.block_steps.specs.Standing.{records_from, records_left, Stands, Lends};
 
 use units::Words;
 
@@ -87,7 +87,8 @@ pub struct Walk<'a> {
 // The records of a block, each lent in turn as a part of it.
 #[tactic(auto, unfolding(crate::specs::Standing::records_left))]
 pub fn records(block: &[u8]) -> Walk<'_>
-    ensures { records_left result ≡ records_from 0 (drop 1 (words_of block.now)) }
+    ensures left { records_left result ≡ records_from 0 (drop 1 (words_of block.now)) }
+    ensures stands { Stands result block.now 1 }
 {
     Walk {
         block,

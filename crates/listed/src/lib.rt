@@ -69,7 +69,7 @@ fn write_row(number: u32, before: Words, whole: &[u8], out: &mut [u8], at: Bytes
 }
 
 // Puts the lines of an accepted block's records.
-// Kept: the place is counted beside the walk, which lends each record as bytes without its place (no clause of `block_steps::records` tells one): an iterator of places would be `step` again.
+// Kept: the place is counted beside the walk, which lends each record as bytes, without its place: an iterator of places would be `step` again.
 fn write_listing(block: &[u8], out: &mut [u8]) -> Bytes
     requires { Accepted block.now × Room out.old 0 (rows_of 1 1 (records_of block.now)) }
     ensures { Put out.old 0 (rows_of 1 1 (records_of block.now)) out.new result.0 }

@@ -25,7 +25,7 @@ loop-number-init c = let b = c.args.block.now in
     let below = all_below 256 b (λ i. omega (arith, c.type_inv.block i)) in
     let is = c.into_iter-number-iterator.ensures.into_iter_gives in
     let one : (zip_first c.into_iter-number-iterator.result).start ≡ 1 = rw (ap zip_first is ∙ c.zip-number-items.ensures.first) refl in
-    loop_start b below c.requires.0 c.records.ensures (ap zip_second is ∙ c.zip-number-items.ensures.second)
+    loop_start b below c.requires.0 c.records.ensures.left (ap zip_second is ∙ c.zip-number-items.ensures.second)
     (record { few = omega (arith, one); within = omega (arith, start_within b below c.requires.0); going = rw one start })
 
 -- the first record that is left

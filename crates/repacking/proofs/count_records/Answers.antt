@@ -11,7 +11,7 @@ use Rattle.repacking.proofs.count_records.Goals as goal
 
 pub loop-whole-init : goal.loop-whole-init
 loop-whole-init c = let b = c.args.block.now in
-    loop_start b (all_below 256 b (λ i. omega (arith, c.type_inv.block i))) c.requires.0 c.records-whole-items.ensures c.into_iter-whole-iterator.ensures.into_iter_gives
+    loop_start b (all_below 256 b (λ i. omega (arith, c.type_inv.block i))) c.requires.0 c.records-whole-items.ensures.left c.into_iter-whole-iterator.ensures.into_iter_gives
     (record { same = refl; can = c.requires.1 })
 
 pub with_record-to-requires : goal.with_record-to-requires

@@ -14,7 +14,7 @@ loop-whole-init c =
     let b = c.args.block.now in
     let below = all_below 256 b (λ i. omega (arith, c.type_inv.block i)) in
     let pre = c.requires in
-    loop_start b below pre.0 c.records-whole-items.ensures c.into_iter-whole-iterator.ensures.into_iter_gives (putting_start (holds b below pre.0).each pre.1)
+    loop_start b below pre.0 c.records-whole-items.ensures.left c.into_iter-whole-iterator.ensures.into_iter_gives (putting_start (holds b below pre.0).each pre.1)
 
 pub put_record-to-requires : goal.put_record-to-requires
 put_record-to-requires c = let t = turn c.loop-whole.invariant _ _ c.next.ensures.steps c.in-Some.is in

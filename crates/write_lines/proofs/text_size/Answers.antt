@@ -8,7 +8,7 @@ use Rattle.write_lines.proofs.text_size.Goals as goal
 pub loop-whole-init : goal.loop-whole-init
 loop-whole-init c = let b = c.args.block.now in
     let below = all_below 256 b (λ i. omega (arith, c.type_inv.block i)) in
-    loop_start b below c.requires c.records-whole-items.ensures c.into_iter-whole-iterator.ensures.into_iter_gives (record { total = omega arith; most = text_bound b below c.requires })
+    loop_start b below c.requires c.records-whole-items.ensures.left c.into_iter-whole-iterator.ensures.into_iter_gives (record { total = omega arith; most = text_bound b below c.requires })
 
 -- the first record that is left, and its bytes
 pub record_size-bytes-requires : goal.record_size-bytes-requires
