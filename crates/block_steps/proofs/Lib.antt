@@ -1,4 +1,5 @@
 pub mod Steps
 pub mod Placed
+pub mod Loops
 pub mod Walking
 pub mod Turns

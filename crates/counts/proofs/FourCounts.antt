@@ -2,7 +2,8 @@
 use mathlib.Core.Path.{◌≡◌, refl}
 use mathlib.Core.Bool.{Bool, true, false}
 use mathlib.Core.List.{List, ◌++◌}
-use Prim.Native.Nat.{ℕ, ◌≤◌, ◌<◌}
+use Prim.Native.Nat.{ℕ, ◌+◌, ◌*◌, ◌≤◌, ◌<◌}
+use native.Mathlib.Nat.{mul-le-mul}
 use native.Mathlib.Omega.{arith}
 use borrow.Author.Tests.{ltb-false, leb-false, le-ltb, lt-leb}
 use lib.Dec.{ltb}
@@ -56,3 +57,7 @@ range_ok c h = by (under_least 16 c.lprol) refl (under_least 0 c.jpar) refl (und
 pub ok_range : (c : Counts) → CountsOk c → in_range c ≡ 4
 unfolding in_range
 ok_range c h = simp (least_at 16 _ h.lprol, least_at 0 _ h.jpar, least_at 0 _ h.mpar, least_at 0 _ h.nrow)
+
+-- rows and their codes, each of a word's size, fit into 64 bits
+pub rows_fit : (m n : ℕ) → m ≤ 65536 → n + 1 ≤ 65536 → m * (n + 1) ≤ 65536 * 65536
+rows_fit m n h k = mul-le-mul {n₂ = 65536} {m₂ = 65536} h k

@@ -1,10 +1,12 @@
 -- What the laws of the exclusive or say of the fold over words.
 use mathlib.Core.Path.{◌≡◌, refl, sym, ap, ap₂, ◌∙◌}
-use Prim.Native.Nat.{ℕ, zero, suc, ◌/◌, ◌%◌, ◌^◌, ◌<◌}
+use Prim.Native.Nat.{ℕ, zero, suc, ◌+◌, ◌/◌, ◌%◌, ◌^◌, ◌<◌}
 use mathlib.Core.List.{List, [], ◌∷◌, ◌++◌, map, map-append}
+use native.Mathlib.Numerals.{add-one}
 use native.Mathlib.Omega.{arith}
 use lib.Bits.{bit_xor, xor_assoc, xor_comm, xor_self, xor_zero_r, xor_lt, xor_shr, xor_mod, xor_block}
-use lib.ListN.{length, get_or, set}
+use lib.ListN.{length, get_or, take, set}
+use lib.Seq.{take-suc}
 use Rattle.std.specs.Int.{w16, from_be_bytes, from_le_bytes}
 use Rattle.words.specs.Words.{xor_all, swapped, All, Below}
 use Rattle.words.proofs.Laws.{get_or_below}
@@ -25,6 +27,12 @@ xor_all-snoc : (ws : List ℕ) (w : ℕ) → xor_all (ws ++ (w ∷ [])) ≡ bit_
 unfolding xor_all
 xor_all-snoc [] w = xor_zero_r w
 xor_all-snoc (x ∷ ws) w = ap (bit_xor x) (xor_all-snoc ws w) ∙ sym (xor_assoc x (xor_all ws) w)
+
+-- one word more under the fold, where both are held with their bytes swapped
+pub fold_on : (ws : List ℕ) (i x w : ℕ) → x < 65536 → w < 65536 → i < length ws → swapped w ≡ get_or ws i 0 → swapped x ≡ xor_all (take i ws)
+    → swapped (bit_xor x w) ≡ xor_all (take (i + 1) ws)
+fold_on ws i x w hx hw h e f =
+    swap_xor x w hx hw ∙ rw (add-one, take-suc ws i 0 h, xor_all-snoc) (ap₂ bit_xor f e)
 
 -- the fold over pairs of bytes holds their words' exclusive or with its bytes swapped
 abbrev pub Folded : List (List ℕ) → ℕ → Type 0
