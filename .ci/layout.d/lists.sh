@@ -15,6 +15,20 @@ functions() {
         }' {} +
 }
 
+# Every method that the impl of a trait has: crate::Type::method. It is public where the trait and the type are, and `pub` does not stand before it.
+methods() {
+    find crates -regex 'crates/[^/]*/out' -prune -o -path '*/src/*.rt' -exec awk '
+        FNR == 1 { split(FILENAME, path, "/"); head = type = "" }
+        /^impl/ { head = $0; type = "" }
+        head != "" && !/^impl/ { head = head " " $0 }
+        head != "" && /[{]$/ {
+            if (sub(/^impl.* for +/, "", head)) { type = head; sub(/[^A-Za-z0-9_].*/, "", type) }
+            head = ""
+        }
+        /^}/ { type = "" }
+        type != "" && /^ +fn [a-z]/ { name = $2; sub(/[^a-z0-9_].*/, "", name); print path[2] "::" type "::" name }' {} +
+}
+
 # Those for C, by name.
 functions_for_c() {
     functions | sed -nE 's/^[a-z0-9_]+::([^\t]*)\t(pub )?extern "C" .*/\1/p'

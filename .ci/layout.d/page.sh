@@ -1,13 +1,19 @@
 # PROMISES is complete and names nothing else: what is in no row of it has no promise that a reader would find.
 page_complete() {
     local page=docs/PROMISES.md
-    lacking "is public, but in no row of $page" <(functions | cut -f 1) <(grep '^|' $page | cut -d '|' -f 2 | quoted)
-    lacking "is in $page, but no public function" <(quoted <$page | grep -xE '[a-z0-9_]+::[a-z0-9_]+') <(functions | cut -f 1)
+    lacking "is public, but in no row of $page" <(public) <(grep '^|' $page | cut -d '|' -f 2 | quoted)
+    lacking "is in $page, but no public function" <(quoted <$page | grep -xE '[a-z0-9_]+::([A-Z][A-Za-z0-9]*::)?[a-z0-9_]+') <(public)
     lacking "is a function for C that $page does not name" <(functions_for_c) <(quoted <$page)
     lacking "is in $page, but no function for C" <(quoted <$page | grep -xE 'cedar_[a-z0-9_]+') <(functions_for_c)
     lacking "is an edit in no row of $page" <(edits) <(edits_named)
     lacking "is in $page, but no edit" <(edits_named) <(edits)
     lacking "is in $page, but not so in any specs/Promises.antt" <(promises_told) <(promises_meant)
+}
+
+# What others can call, by name.
+public() {
+    functions | cut -f 1
+    methods
 }
 
 # What stands in backquotes.
