@@ -1,10 +1,11 @@
 // The lines of a text. Only this crate knows how a line ends.
 #![tactic(auto)]
 
-ghost use Rattle.std.specs.Prelude.{◌≡◌, true, ◌+◌, ◌≤◌, ◌<◌, eqb, leb, length, get_or, drop};
+ghost use Rattle.std.specs.Prelude.{◌≡◌, true, ◌+◌, ◌*◌, ◌/◌, ◌≤◌, ◌<◌, eqb, length, get_or, drop, MatchOption};
 ghost use Rattle.words.specs.Scans.{within, plain_in};
 ghost use Rattle.read_cut.specs.Lines.{end_length, PlainOn, CutAt};
 
+use std::simd::prelude::*;
 use units::Bytes;
 
 // Where a line ends, where the next one begins, and how many of its bytes are plain, from 32 to 126, before the first that is not.
@@ -21,57 +22,61 @@ fn is_plain(b: u8) -> bool
     (b' '..=b'~').contains(&b)
 }
 
-// Sixteen bytes are plain. Each is looked at, whatever the others are, so that the machine can take them at once.
-#[tactic(auto, using(crate::proofs::PlainBytes::one_more))]
-fn sixteen_plain(sixteen: &[u8; 16]) -> bool
-    ensures { result ≡ leb 16 (plain_in sixteen.now) }
+// How many of sixteen bytes are plain, before the first that is not. All are looked at at once, so that no byte of a sixteen is gone over by itself.
+fn plain_of(sixteen: &[u8; 16]) -> usize
+    ensures { result ≡ plain_in sixteen.now }
 {
-    let mut plain = true;
-    for b in sixteen {
-        plain = plain & is_plain(*b);
+    let bytes = Simd::from_array(*sixteen);
+    let others = bytes.simd_lt(Simd::splat(b' ')) | bytes.simd_gt(Simd::splat(b'~'));
+    let bits = others.to_bitmask();
+    if bits == 0 {
+        16
+    } else {
+        bits.trailing_zeros() as usize
     }
-    plain
 }
 
-// The bytes of the sixteens that a text begins with and that are plain.
-fn plain_sixteens(text: &[u8]) -> usize
-    ensures { PlainOn text.now 0 result × (result ≤ length text.now) }
+// How many plain bytes a text begins with, where one of its sixteens tells: all of these are plain where none does.
+fn plain_sixteens(text: &[u8]) -> Option<usize>
+    ensures { MatchOption result (PlainOn text.now 0 (16 * (length text.now / 16))) (λ n. n ≡ plain_in text.now) }
 {
     let (sixteens, _) = text.as_chunks::<16>();
-    let found = sixteens.iter().position(|sixteen| !sixteen_plain(sixteen));
-    16 * found.unwrap_or(sixteens.len())
+    for (i, sixteen) in sixteens.iter().enumerate() {
+        let plain = plain_of(sixteen);
+        if plain < 16 {
+            return Some(16 * i + plain);
+        }
+    }
+    None
 }
 
-// From place `at` on plain bytes, one by one, up to `end` at most.
-// Kept: a text and a place, since a search in the rest of the text took a tenth more instructions where lines are judged.
-fn plain_upto(text: &[u8], at: usize, end: usize) -> usize
-    requires { (at ≤ end) × (end ≤ length text.now) }
-    ensures { PlainOn text.now at result × (result ≤ end) × (result < end → plain_in (drop result text.now) ≡ 0) }
+// From place `at` on plain bytes, one by one, as far as they go.
+// Kept: a text and a place, as `plain_end` has them: a search in the rest of the text would answer with a place in that rest.
+fn plain_upto(text: &[u8], at: usize) -> usize
+    requires { at ≤ length text.now }
+    ensures { PlainOn text.now at result × (result ≤ length text.now) × (result < length text.now → plain_in (drop result text.now) ≡ 0) }
 {
-    for i in at..end {
+    for i in at..text.len() {
         if !is_plain(text[i]) {
             return i;
         }
     }
-    end
+    text.len()
 }
 
-// The place before which the bytes from place `at` on are plain. A line of one field ends among the first eight of them; only longer ones are worth more at once.
+// The place before which the bytes from place `at` on are plain. An empty line is told by its first byte, and no sixteen is looked at for it.
 fn plain_end(text: &[u8], at: usize) -> usize
-    requires { at ≤ length text.now }
+    requires { at < length text.now }
     ensures { result ≡ at + plain_in (drop at text.now) }
 {
-    let all = text.len();
-    if all - at < 8 {
-        return plain_upto(text, at, all);
+    if !is_plain(text[at]) {
+        return at;
     }
-    let near = at + 8;
-    let first = plain_upto(text, at, near);
-    if first < near {
-        return first;
+    let here = &text[at..];
+    match plain_sixteens(here) {
+        Some(plain) => at + plain,
+        None => plain_upto(text, at + 16 * (here.len() / 16)),
     }
-    let far = near + plain_sixteens(&text[near..]);
-    plain_upto(text, far, all)
 }
 
 // The bytes of the line end that a text begins with: 0 where there is none.

@@ -1,14 +1,14 @@
 use mathlib.Core.Bool.{Bool, true, false}
-use mathlib.Core.Path.{◌≡◌, refl, ap}
+use mathlib.Core.Path.{◌≡◌, refl, sym, ap, ◌∙◌}
 use mathlib.Core.List.{List}
 use Prim.Native.Nat.{ℕ, ◌+◌, ◌-◌, ◌<◌}
 use native.Mathlib.Omega.{arith}
 use borrow.Author.Tests.{ltb-true, ltb-false}
 use lib.Dec.{ltb}
-use lib.ListN.{length, take, drop}
+use lib.ListN.{length, length-drop, take, drop}
 use Rattle.std.proofs.lemmas.List.{take_rest, drop-drop}
 use Rattle.words.specs.Scans.{within, plain_in}
-use Rattle.words.proofs.Scans.{scan_end}
+use Rattle.words.proofs.Scans.{scan_end, scan_le, scan_stop}
 use Rattle.read_cut.specs.Lines.{PlainOn}
 use Rattle.read_cut.proofs.plain_end.Goals as goal
 
@@ -24,11 +24,16 @@ ends t at i on stop = by (ltb i (length t)) refl
 onward : (t : List ℕ) (n k : ℕ) → PlainOn (take (length t - n) (drop n t)) 0 k → PlainOn t n (n + k)
 onward t n k p = let e = take_rest t n in omega (arith, p, ap plain_in e, ap (λ l. plain_in (drop k l)) e, ap plain_in (drop-drop k n t))
 
-pub returns-then-all-at-lt8 : goal.returns-then-all-at-lt8
-returns-then-all-at-lt8 c = let u = c.plain_upto.ensures in ends _ _ _ u.0 u.2
+pub returns-then-not-is_plain : goal.returns-then-not-is_plain
+returns-then-not-is_plain c =
+    omega (arith, scan_stop (within 32 126) c.args.text.now c.args.at _ c.requires refl (sym c.is_plain.ensures ∙ c.if-not-is_plain.true))
 
-pub returns : goal.returns
-returns c = let u = c.plain_upto-2.ensures in let n = c.plain_upto-first in let t = c.args.text.now in
-    let near : n.result ≡ c.args.at + 8 = omega (arith, n.ensures.1, c.if-first-near.false) in
-    let far = onward t (c.args.at + 8) c.plain_sixteens.result c.plain_sixteens.ensures.0 in
-    ends _ _ _ (omega (arith, u.0, far, n.ensures.0, ap (λ i. i + plain_in (drop i t)) near)) u.2
+pub overflow_add-result : goal.overflow_add-result
+overflow_add-result c =
+    let t = c.args.text.now in let at = c.args.at in let here = take (length t - at) (drop at t) in
+    omega (arith, c.in-Some.ensures, scan_le (within 32 126) here, ap length (take_rest t at), length-drop at t)
+
+pub returns-in-None : goal.returns-in-None
+returns-in-None c =
+    let u = c.plain_upto.ensures in
+    ends _ _ _ (omega (arith, u.0, onward c.args.text.now c.args.at _ c.in-None.ensures)) u.2
