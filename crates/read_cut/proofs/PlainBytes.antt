@@ -46,6 +46,7 @@ before_set (x ∷ xs) = rw (not_set x, before_set xs) (one (within 32 126 x) (pl
 
 module _ (v : List ℕ) (long : length v ≡ 16) (n : ℕ)
     (bits : n ≡ mask_l (map (top 7) (zip2 bit_or (zip2 under v (replicate 16 32)) (zip2 under (replicate 16 126) v))) % 2 ^ 64) where
+  -- the mask is that of the lanes that are set
   mask : n ≡ mask_l (map set v)
   mask =
       bits ∙ ap (λ l. mask_l (map (top 7) l) % 2 ^ 64) (zip2_of_maps bit_or _ _ v (zip2_splat under v 16 32 long) (zip2_splat_left under 126 16 v long))
@@ -60,10 +61,11 @@ module _ (v : List ℕ) (long : length v ≡ 16) (n : ℕ)
   first_set h = ap (count_trailing_zeros 64) mask ∙ trailing_mask_l set 64 v (omega arith) (omega (arith, mask)) ∙ before_set v
 
 -- the sixteen at place i ends the plain bytes, or they go on behind it
-module _ (l : List ℕ) (ss : List (List ℕ)) (i n : ℕ) (front : ss ≡ first_chunks 16 (length l / 16) l) (long : length ss ≡ length l / 16) (inside : i < length ss)
+module _ (l : List ℕ) (ss : List (List ℕ)) (i n : ℕ) (front : ss ≡ first_chunks 16 (length l / 16) l) (inside : i < length l / 16)
     (on : PlainOn l 0 (16 * i)) (is : n ≡ plain_in (get_or ss i [])) where
+  -- how many plain bytes stand there, sixteen at most
   of_all : n ≡ min 16 (plain_in (drop (16 * i) l))
-  of_all = is ∙ ap plain_in (ap (λ t. get_or t i []) front ∙ sixteen_at (length l / 16) l i (omega arith)) ∙ scan_take (within 32 126) 16 (drop (16 * i) l)
+  of_all = is ∙ ap plain_in (ap (λ t. get_or t i []) front ∙ sixteen_at (length l / 16) l i inside) ∙ scan_take (within 32 126) 16 (drop (16 * i) l)
 
   pub ends_here : n < 16 → 16 * i + n ≡ plain_in l
   ends_here few = omega (arith, on, of_all)

@@ -22,7 +22,7 @@ fn is_plain(b: u8) -> bool
     (b' '..=b'~').contains(&b)
 }
 
-// How many of sixteen bytes are plain, before the first that is not. All are looked at at once, so that no byte of a sixteen is gone over by itself.
+// How many plain bytes sixteen bytes begin with: a mask of all of them tells the first that is not, and none is gone over by itself.
 fn plain_of(sixteen: &[u8; 16]) -> usize
     ensures { result ≡ plain_in sixteen.now }
 {
@@ -36,7 +36,7 @@ fn plain_of(sixteen: &[u8; 16]) -> usize
     }
 }
 
-// How many plain bytes a text begins with, where one of its sixteens tells: all of these are plain where none does.
+// How many plain bytes a text begins with, where they end in one of its sixteens; none is told where all sixteens are plain.
 fn plain_sixteens(text: &[u8]) -> Option<usize>
     ensures { MatchOption result (PlainOn text.now 0 (16 * (length text.now / 16))) (λ n. n ≡ plain_in text.now) }
 {
@@ -51,7 +51,7 @@ fn plain_sixteens(text: &[u8]) -> Option<usize>
 }
 
 // From place `at` on plain bytes, one by one, as far as they go.
-// Kept: a text and a place, as `plain_end` has them: a search in the rest of the text would answer with a place in that rest.
+// Kept: a text and a place, as `plain_end` has them. It goes over fewer than sixteen bytes, at the text's end.
 fn plain_upto(text: &[u8], at: usize) -> usize
     requires { at ≤ length text.now }
     ensures { PlainOn text.now at result × (result ≤ length text.now) × (result < length text.now → plain_in (drop result text.now) ≡ 0) }
@@ -64,12 +64,12 @@ fn plain_upto(text: &[u8], at: usize) -> usize
     text.len()
 }
 
-// The place before which the bytes from place `at` on are plain. An empty line is told by its first byte, and no sixteen is looked at for it.
+// The place before which the bytes from place `at` on are plain. A line whose first byte is not plain, as an empty one, needs no sixteen.
 fn plain_end(text: &[u8], at: usize) -> usize
-    requires { at < length text.now }
+    requires { at ≤ length text.now }
     ensures { result ≡ at + plain_in (drop at text.now) }
 {
-    if !is_plain(text[at]) {
+    if at < text.len() && !is_plain(text[at]) {
         return at;
     }
     let here = &text[at..];

@@ -26,7 +26,7 @@ onward t n k p = let e = take_rest t n in omega (arith, p, ap plain_in e, ap (λ
 
 pub returns-then-not-is_plain : goal.returns-then-not-is_plain
 returns-then-not-is_plain c =
-    omega (arith, scan_stop (within 32 126) c.args.text.now c.args.at _ c.requires refl (sym c.is_plain.ensures ∙ c.if-not-is_plain.true))
+    omega (arith, scan_stop (within 32 126) c.args.text.now c.args.at _ (omega arith) refl (sym c.is_plain.ensures ∙ c.if-not-is_plain.true))
 
 pub overflow_add-result : goal.overflow_add-result
 overflow_add-result c =
