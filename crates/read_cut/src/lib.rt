@@ -16,10 +16,16 @@ pub struct Cut {
     pub plain: Bytes,
 }
 
+// The first plain byte.
+const LEAST: u8 = b' ';
+
+// The last plain byte.
+const MOST: u8 = b'~';
+
 fn is_plain(b: u8) -> bool
     ensures { result ≡ within 32 126 b }
 {
-    (b' '..=b'~').contains(&b)
+    (LEAST..=MOST).contains(&b)
 }
 
 // How many plain bytes sixteen bytes begin with: a mask of all of them tells the first that is not, and none is gone over by itself.
@@ -27,7 +33,7 @@ fn plain_of(sixteen: &[u8; 16]) -> usize
     ensures { result ≡ plain_in sixteen.now }
 {
     let bytes = Simd::from_array(*sixteen);
-    let others = bytes.simd_lt(Simd::splat(b' ')) | bytes.simd_gt(Simd::splat(b'~'));
+    let others = bytes.simd_lt(Simd::splat(LEAST)) | bytes.simd_gt(Simd::splat(MOST));
     let bits = others.to_bitmask();
     if bits == 0 {
         16
