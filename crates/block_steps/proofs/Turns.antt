@@ -13,7 +13,7 @@ use Rattle.block.specs.Judging.{Accepted}
 use Rattle.block.specs.Records.{records_of}
 use Rattle.block.proofs.Exact.{ok_long, only_good, words_are, frame_of, frame_ok}
 use Rattle.block_steps.specs.declared.Walk.{Walk}
-use Rattle.block_steps.specs.Standing.{records_from, records_left, LendsRecord}
+use Rattle.block_steps.specs.Standing.{records_from, records_left, LendsFirst}
 use Rattle.block_steps.proofs.Walking.{stand_in_block}
 
 -- the records that are left are good, and what holds of them
@@ -43,20 +43,20 @@ module _ (b : List ℕ) (bytes : Below 256 b) (a : Accepted b) where
   loop_start made same {P} h = let are = ap records_left same ∙ made ∙ stand_in_block b bytes a in
       record { good = subst (All BlockRecord) (sym are) block_records; holds = subst P (sym are) h }
 
-pub turn : {it : Walk} {P : List (List ℕ) → Type 0} → Loop it P → (r : Option (Bor (List ℕ))) (next : Walk) → LendsRecord it r next
+pub turn : {it : Walk} {P : List (List ℕ) → Type 0} → Loop it P → (r : Option (Bor (List ℕ))) (next : Walk) → LendsFirst it r next
     → {whole : Bor (List ℕ)} → r ≡ Some whole → Turn P whole.now next
 turn {it} {P} l r next lends {whole} is = by (rw is at lends)
   where
-    by : LendsRecord it (Some whole) next → Turn P whole.now next
+    by : LendsFirst it (Some whole) next → Turn P whole.now next
     by t =
         let good = subst (All BlockRecord) t.0 l.good in
         record { good = good.0; bytes = t.1; long = ok_long (words_of whole.now) good.0.ok; holds = subst P t.0 l.holds; others = good.1 }
 
 -- where none is lent none is left
-pub loop_end : {it : Walk} {P : List (List ℕ) → Type 0} → Loop it P → (r : Option (Bor (List ℕ))) (next : Walk) → LendsRecord it r next → r ≡ None → P []
+pub loop_end : {it : Walk} {P : List (List ℕ) → Type 0} → Loop it P → (r : Option (Bor (List ℕ))) (next : Walk) → LendsFirst it r next → r ≡ None → P []
 loop_end {it} {P} l r next lends is = by (rw is at lends)
   where
-    by : LendsRecord it None next → P []
+    by : LendsFirst it None next → P []
     by t = subst P t.0 l.holds
 
 -- behind the record the others are left

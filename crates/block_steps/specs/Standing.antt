@@ -26,9 +26,16 @@ Stands it b at = (it.block.now ≡ b) × (it.at.0 ≡ at)
 unfoldable pub records_left : Walk → List (List ℕ)
 records_left it = records_from 0 (drop it.at.0 (words_of it.block.now))
 
--- the first of them is lent, a part of the block that has just its words, and the walk stands behind it; or none is left, now and later, and it stays where it stood
+-- the first of them is lent, a part of the block that has just its words; or none is left, now and later
+abbrev pub LendsFirst : Walk → Option (Bor (List ℕ)) → Walk → Type 0
+LendsFirst old None new = (records_left old ≡ []) × (records_left new ≡ [])
+LendsFirst old (Some whole) new = (records_left old ≡ words_of whole.now ∷ records_left new) × (whole.now ≡ bytes_of (words_of whole.now))
+
+-- the walk goes over the same block, and stands behind the record that is lent; where none is lent, where it stood
+abbrev pub StandsBehind : Walk → Option (Bor (List ℕ)) → Walk → Type 0
+StandsBehind old None new = Stands new old.block.now old.at.0
+StandsBehind old (Some whole) new = Stands new old.block.now (old.at.0 + length (words_of whole.now))
+
+-- what each step of a walk gives: both of these, of which the laws of Turns.antt ask for the first
 abbrev pub LendsRecord : Walk → Option (Bor (List ℕ)) → Walk → Type 0
-LendsRecord old None new = (records_left old ≡ []) × (records_left new ≡ []) × Stands new old.block.now old.at.0
-LendsRecord old (Some whole) new =
-    (records_left old ≡ words_of whole.now ∷ records_left new)
-    × (whole.now ≡ bytes_of (words_of whole.now)) × Stands new old.block.now (old.at.0 + length (words_of whole.now))
+LendsRecord old lent new = LendsFirst old lent new × StandsBehind old lent new

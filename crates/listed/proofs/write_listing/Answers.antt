@@ -31,17 +31,17 @@ loop-number-init c = let b = c.args.block.now in
 -- the first record that is left
 pub write_row-to-requires : goal.write_row-to-requires
 write_row-to-requires c = let s = c.in-Some.ensures.steps in
-    let t = turn c.loop-number.invariant (Some c.in-Some.whole) _ s.1 refl in
+    let t = turn c.loop-number.invariant (Some c.in-Some.whole) _ s.1.0 refl in
     let l = c.loop-number in
     (omega (arith, t.holds.within), t.good, fits t.holds.going (row_of c.in-Some.number l.at (words_of c.in-Some.whole.now)) _ (rows_on _ _ _ _ _ refl s.0.0 s.0.1) c.requires.1)
 
 pub overflow_add-at : goal.overflow_add-at
-overflow_add-at c = let t = turn c.loop-number.invariant (Some c.in-Some.whole) _ c.in-Some.ensures.steps.1 refl in
+overflow_add-at c = let t = turn c.loop-number.invariant (Some c.in-Some.whole) _ c.in-Some.ensures.steps.1.0 refl in
     omega (arith, c.count-at.ensures, split _ _ _ t.holds.within)
 
 pub loop-number-preserved : goal.loop-number-preserved
 loop-number-preserved c = let s = c.in-Some.ensures.steps in
-    let t = turn c.loop-number.invariant (Some c.in-Some.whole) _ s.1 refl in
+    let t = turn c.loop-number.invariant (Some c.in-Some.whole) _ s.1.0 refl in
     loop_on t (record {
       few = omega (arith, c.count-at.ensures, t.long, t.holds.few, s.0.1);
       within = omega (arith, c.count-at.ensures, split _ _ _ t.holds.within);
@@ -53,4 +53,4 @@ pub returns : goal.returns
 unfolding rows_of
 returns c =
     let holds = c.loop-number.invariant.holds in
-    ⊎_elim (λ s. absurd (omega (arith, s.1.0, holds.few, holds.within))) (λ s. done (loop_end c.loop-number.invariant None _ s.1 refl).going refl) c.in-None.ensures.steps
+    ⊎_elim (λ s. absurd (omega (arith, s.1.0, holds.few, holds.within))) (λ s. done (loop_end c.loop-number.invariant None _ s.1.0 refl).going refl) c.in-None.ensures.steps

@@ -16,14 +16,14 @@ loop-whole-init c = let b = c.args.block.now in
 
 pub with_record-to-requires : goal.with_record-to-requires
 with_record-to-requires c =
-    let t = turn c.loop-whole.invariant _ _ c.next.ensures.steps c.in-Some.is in
+    let t = turn c.loop-whole.invariant _ _ c.next.ensures.steps.0 c.in-Some.is in
     let n : c.count-k.result.0 ≤ most_record_words = omega (arith, c.count-k.ensures, t.good.most) in
     (rw c.room_for.ensures (omega (arith, (room_at c.loop-whole.to c.count-k.result.0 n).used)), n)
 
 pub loop-whole-preserved : goal.loop-whole-preserved
-loop-whole-preserved c = let t = turn c.loop-whole.invariant _ _ c.next.ensures.steps c.in-Some.is in
+loop-whole-preserved c = let t = turn c.loop-whole.invariant _ _ c.next.ensures.steps.0 c.in-Some.is in
     loop_on t (counted t.holds t.good c.count-k.ensures c.room_for.ensures c.with_record-to.ensures)
 
 pub returns : goal.returns
 unfolding current_after
-returns c = (loop_end c.loop-whole.invariant _ _ c.next.ensures.steps c.in-None.is).same
+returns c = (loop_end c.loop-whole.invariant _ _ c.next.ensures.steps.0 c.in-None.is).same

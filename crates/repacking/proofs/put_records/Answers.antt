@@ -17,12 +17,12 @@ loop-whole-init c =
     loop_start b below pre.0 c.records-whole-items.ensures.left c.into_iter-whole-iterator.ensures.into_iter_gives (putting_start (holds b below pre.0).each pre.1)
 
 pub put_record-to-requires : goal.put_record-to-requires
-put_record-to-requires c = let t = turn c.loop-whole.invariant _ _ c.next.ensures.steps c.in-Some.is in
+put_record-to-requires c = let t = turn c.loop-whole.invariant _ _ c.next.ensures.steps.0 c.in-Some.is in
     (t.good, t.bytes, first_fits t.holds (words_of c.in-Some.whole.now ∷ []) (records_left c.next.new.self) refl)
 
 pub loop-whole-preserved : goal.loop-whole-preserved
-loop-whole-preserved c = let t = turn c.loop-whole.invariant _ _ c.next.ensures.steps c.in-Some.is in
+loop-whole-preserved c = let t = turn c.loop-whole.invariant _ _ c.next.ensures.steps.0 c.in-Some.is in
     loop_on t (first-put t.holds (words_of c.in-Some.whole.now ∷ []) (records_left c.next.new.self) refl c.put_record-to.ensures)
 
 pub returns : goal.returns
-returns c = all-put (loop_end c.loop-whole.invariant _ _ c.next.ensures.steps c.in-None.is)
+returns c = all-put (loop_end c.loop-whole.invariant _ _ c.next.ensures.steps.0 c.in-None.is)

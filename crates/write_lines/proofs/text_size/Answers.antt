@@ -12,16 +12,16 @@ loop-whole-init c = let b = c.args.block.now in
 
 -- the first record that is left, and its bytes
 pub record_size-bytes-requires : goal.record_size-bytes-requires
-record_size-bytes-requires c = (turn c.loop-whole.invariant _ _ c.next.ensures.steps c.in-Some.is).good
+record_size-bytes-requires c = (turn c.loop-whole.invariant _ _ c.next.ensures.steps.0 c.in-Some.is).good
 
 pub overflow_add-bytes : goal.overflow_add-bytes
-overflow_add-bytes c = let t = turn c.loop-whole.invariant _ _ c.next.ensures.steps c.in-Some.is in
+overflow_add-bytes c = let t = turn c.loop-whole.invariant _ _ c.next.ensures.steps.0 c.in-Some.is in
     omega (arith, counted t.holds c.record_size-bytes.ensures)
 
 pub loop-whole-preserved : goal.loop-whole-preserved
-loop-whole-preserved c = let t = turn c.loop-whole.invariant _ _ c.next.ensures.steps c.in-Some.is in
+loop-whole-preserved c = let t = turn c.loop-whole.invariant _ _ c.next.ensures.steps.0 c.in-Some.is in
     loop_on t (counted t.holds c.record_size-bytes.ensures)
 
 pub returns : goal.returns
 unfolding text_of
-returns c = omega (arith, loop_end c.loop-whole.invariant _ _ c.next.ensures.steps c.in-None.is)
+returns c = omega (arith, loop_end c.loop-whole.invariant _ _ c.next.ensures.steps.0 c.in-None.is)

@@ -16,14 +16,14 @@ loop-whole-init c = let b = c.args.block.now in
 -- the first record that is left
 pub write_record-to-requires : goal.write_record-to-requires
 unfolding text_of
-write_record-to-requires c = let t = turn c.loop-whole.invariant _ _ c.next.ensures.steps c.in-Some.is in
+write_record-to-requires c = let t = turn c.loop-whole.invariant _ _ c.next.ensures.steps.0 c.in-Some.is in
     record { good = t.good; room = fits t.holds (ended (lines_of (words_of c.in-Some.whole.now))) _ refl c.requires.1 }
 
 pub loop-whole-preserved : goal.loop-whole-preserved
 unfolding text_of
-loop-whole-preserved c = let t = turn c.loop-whole.invariant _ _ c.next.ensures.steps c.in-Some.is in
+loop-whole-preserved c = let t = turn c.loop-whole.invariant _ _ c.next.ensures.steps.0 c.in-Some.is in
     loop_on t (on t.holds _ _ refl c.write_record-to.ensures)
 
 pub returns : goal.returns
 unfolding text_of
-returns c = done (loop_end c.loop-whole.invariant _ _ c.next.ensures.steps c.in-None.is) refl
+returns c = done (loop_end c.loop-whole.invariant _ _ c.next.ensures.steps.0 c.in-None.is) refl
